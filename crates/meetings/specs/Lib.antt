@@ -1,0 +1,4 @@
+pub mod Bytes
+pub mod Held
+pub mod Lists
+pub mod Refusals
