@@ -1,11 +1,14 @@
--- One turn of reading meetings: the rule at what is left is the rule one meeting on. Assumes nothing.
-use mathlib.Core.Bool.{cond}
-use mathlib.Core.List.{List, [], _∷_, _++_}
+-- One turn of reading and of writing: what is left gives the whole, one meeting on. Assumes nothing.
+use mathlib.Core.List.{List, [], _∷_, _++_, append-assoc, append-nil}
 use mathlib.Core.Path.{_≡_, refl, sym, ap, _∙_}
 use native.Mathlib.Omega.{arith}
 use Prim.Native.Nat.{ℕ, zero, suc, _+_, _*_, _-_, _<_, _≤_}
+use lib.ListN.{length, getD, drop}
+use Rattle.std.proofs.shelf.Lists.{drop-all, drop-more}
 use Rattle.meetings.specs.declared.numbers.Meeting.{Meeting}
-use Rattle.meetings.specs.Bytes.{meeting-at, meetings-at}
+use Rattle.meetings.specs.declared.numbers.Side.the-variants.{Groups, Stations}
+use Rattle.meetings.specs.Bytes.{meeting-at, meetings-at, bytes-of-meetings}
+use Rattle.meetings.specs.Lists.{party, nobody}
 use Rattle.meetings.specs.Refusals.{Outcome, accepted, refused, then}
 
 -- so many left, of which one is read
@@ -23,3 +26,11 @@ module _ (bs : List ℕ) (n k many i : ℕ) (came : List Meeting) {whole : Outco
   refused-one e =
       let less : many - i ≡ suc (many - (i + 1)) = omega arith in
       rw (← inv, one-less bs n k (many - i) (many - (i + 1)) (5 + 2 * i) came less, ← e) refl
+
+-- one meeting more is written
+pub write-one : (done now : List ℕ) (ms : List Meeting) (i : ℕ) {whole : List ℕ} → i < length ms → done ++ bytes-of-meetings (drop i ms) ≡ whole → now ≡ done ++ party Groups (getD ms i nobody) ∷ party Stations (getD ms i nobody) ∷ [] → now ++ bytes-of-meetings (drop (i + 1) ms) ≡ whole
+write-one done now ms i h inv e =
+    rw (e, append-assoc, ← inv) (ap (λ l. done ++ bytes-of-meetings l) (sym (drop-more ms i nobody h)))
+
+pub write-all : (done : List ℕ) (ms : List Meeting) (i : ℕ) {whole : List ℕ} → length ms ≤ i → done ++ bytes-of-meetings (drop i ms) ≡ whole → done ≡ whole
+write-all done ms i h inv = rw (← inv, drop-all i ms h) (sym (append-nil done))

@@ -2,3 +2,4 @@ pub mod Bytes
 pub mod Held
 pub mod Lists
 pub mod Refusals
+pub mod RoundTrips

@@ -12,7 +12,18 @@ use Rattle.meetings.specs.declared.refusal.Lent.{Lent}
 use Rattle.meetings.specs.declared.refusal.Lent.the-variants.{Rounds, GroupRows, StationRows}
 use Rattle.meetings.specs.declared.refusal.Refusal.{Refusal}
 use Rattle.meetings.specs.declared.refusal.Refusal.the-variants.{
-  Length, OutOfLimits, TooManyMeetings, NoSuchParty, ShortSlice, BadChange, NoSuchRound, Clash, Crowded, NotFewest, Memory}
+  Length,
+  OutOfLimits,
+  TooManyMeetings,
+  NoSuchParty,
+  ShortSlice,
+  BadChange,
+  NoSuchRound,
+  Clash,
+  Crowded,
+  NotFewest,
+  Memory,
+}
 
 abbrev pub number-of : Refusal → ℕ
 number-of (Length at) = 1

@@ -1,8 +1,10 @@
 // Meetings of groups with stations: their numbers, the list of a day, its bytes, and why something is refused.
+mod held;
 mod list;
 mod numbers;
 mod reading;
 mod refusal;
+mod writing;
 
 pub use list::MeetingList;
 pub use numbers::Group;
@@ -11,6 +13,8 @@ pub use numbers::MeetingId;
 pub use numbers::Round;
 pub use numbers::Side;
 pub use numbers::Station;
+pub use reading::read;
 pub use refusal::Lent;
 pub use refusal::Limit;
 pub use refusal::Refusal;
+pub use writing::write;

@@ -4,7 +4,8 @@ ghost use mathlib.Core.Path.{_≡_};
 ghost use Prim.Native.Nat.{_+_, _^_, _≤_, _<_};
 ghost use lib.ListN.{length};
 ghost use Rattle.std.specs.Of.Vec.{vec-items};
-ghost use Rattle.meetings.specs.Bytes.{limit, count, party-at, meeting-at, meetings-at, read-list};
+ghost use Rattle.std.specs.Vec.{made};
+ghost use Rattle.meetings.specs.Bytes.{limit, count, party-at, meeting-at, meetings-at, read-list, bytes-of};
 ghost use Rattle.meetings.specs.Held.{contents};
 ghost use Rattle.meetings.specs.Refusals.{outcome, Answers, place-of-limit};
 use crate::list::MeetingList;
@@ -13,6 +14,7 @@ use crate::numbers::Meeting;
 use crate::numbers::Station;
 use crate::refusal::Limit;
 use crate::refusal::Refusal;
+use crate::refusal::RefusalFromRefused;
 use std::alloc::Global;
 
 // The most groups, stations and rooms, and the most meetings.
@@ -80,10 +82,7 @@ fn meetings(
     let mut read = Vec::new(heap);
     for i in 0..many {
         let next = meeting(bytes, HEAD + 2 * i as usize, groups, stations)?;
-        match read.push(next) {
-            Ok(()) => {}
-            Err(_) => return Err(Refusal::Memory),
-        }
+        read.push(next)?;
     }
     let end = HEAD + 2 * many as usize;
     if bytes.len() > end {
@@ -94,7 +93,8 @@ fn meetings(
 
 // The list that the bytes say, or what is wrong with them first.
 pub fn read(heap: Global, bytes: &[u8]) -> Result<MeetingList, Refusal>
-    ensures { λ r. ⌜ Answers contents r (read-list (now (bytes .entry))) ⌝ }
+    ensures answer { λ r. ⌜ Answers contents r (read-list (now (bytes .entry))) ⌝ }
+    ensures back { λ r. ⌜ made r (λ l. bytes-of (contents l) ≡ now (bytes .entry)) ⌝ }
 {
     if bytes.len() < HEAD {
         return Err(Refusal::Length(bytes.len()));
@@ -104,5 +104,10 @@ pub fn read(heap: Global, bytes: &[u8]) -> Result<MeetingList, Refusal>
     let rooms = within_limits(bytes[2], Limit::Rooms)?;
     let many = meeting_count(bytes[3], bytes[4])?;
     let meetings = meetings(heap, bytes, groups, stations, many)?;
-    Ok(MeetingList { groups, stations, rooms, meetings })
+    Ok(MeetingList {
+        groups,
+        stations,
+        rooms,
+        meetings,
+    })
 }

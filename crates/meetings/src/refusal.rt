@@ -1,15 +1,18 @@
 // Why something is refused: one kind for each reason, each with a number and a place.
 ghost use mathlib.Core.Path.{_≡_};
 ghost use Rattle.meetings.specs.Refusals.{number-of, place-of};
+ghost use Rattle.meetings.specs.declared.refusal.Refusal.the-variants.{Memory};
 use crate::numbers::MeetingId;
-use crate::numbers::Round;
-use crate::numbers::Side;
 use crate::numbers::MeetingIdDebug;
 use crate::numbers::MeetingIdPartialEq;
+use crate::numbers::Round;
 use crate::numbers::RoundDebug;
 use crate::numbers::RoundPartialEq;
+use crate::numbers::Side;
 use crate::numbers::SideDebug;
 use crate::numbers::SidePartialEq;
+use std::alloc::AllocError;
+use std::alloc::Refused;
 
 // The three numbers at the head of a list, each 1 to 120.
 #[derive(Clone, Copy, PartialEq, Eq, Debug)]
@@ -94,5 +97,22 @@ impl Refusal {
             Refusal::NotFewest(rounds) => rounds as usize,
             Refusal::Memory => 0,
         }
+    }
+}
+
+// An allocation that fails is a refusal, so that `?` serves for both.
+pub impl From<AllocError> for Refusal as RefusalFromAlloc {
+    ghost converts = { λ _ r. r ≡ Memory };
+
+    fn from(_e: AllocError) -> Refusal {
+        Refusal::Memory
+    }
+}
+
+pub impl<T: Drop> From<Refused<T>> for Refusal as RefusalFromRefused {
+    ghost converts = { λ _ r. r ≡ Memory };
+
+    fn from(_e: Refused<T>) -> Refusal {
+        Refusal::Memory
     }
 }

@@ -13,4 +13,4 @@ returns-in-Break-next c =
 pub loop-i-again : need.loop-i-again
 loop-i-again c =
     read-one _ _ _ _ _ _ (c .loop-i-test .taken) (c .loop-i .inv) _ (c .in-Continue-next .ensures tt)
-    (c .in-Ok .ensures tt .items)
+    (c .in-Continue-push .ensures tt .items)

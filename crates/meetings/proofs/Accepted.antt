@@ -1,0 +1,128 @@
+-- What is accepted is proper, and is written as it stood: each part of the rule accepts only the bytes that its value is
+-- written by. Assumes nothing.
+use mathlib.Core.Bool.{cond, _||_}
+use mathlib.Core.List.{List, [], _∷_, _++_, append-nil, append-assoc}
+use mathlib.Core.Path.{_≡_, refl, sym, ap, _∙_}
+use native.Mathlib.Omega.{arith}
+use Prim.Native.Nat.{ℕ, zero, suc, _+_, _*_, _-_, _/_, _%_, _<_, _≤_}
+use lib.Dec.{eqb, leb, ltb}
+use lib.ListN.{length, getD, drop}
+use Rattle.std.proofs.shelf.Lists.{drop-all, drop-more}
+use Rattle.std.proofs.shelf.Tests.{ltb-false}
+use Rattle.std.proofs.shelf.Ways.{tells}
+use Rattle.meetings.proofs.Outcomes.{then-accepted, unless-refused}
+use Rattle.meetings.specs.declared.numbers.Meeting.{Meeting}
+use Rattle.meetings.specs.declared.numbers.Side.{Side}
+use Rattle.meetings.specs.declared.numbers.Side.the-variants.{Groups, Stations}
+use Rattle.meetings.specs.Bytes.{limit, count, party-at, meeting-at, meetings-at, read-list, bytes-of-meetings, bytes-of}
+use Rattle.meetings.specs.Lists.{Contents, Proper, Exist, Within, meeting, nobody, party, parties}
+use Rattle.meetings.specs.Refusals.{Outcome, accepted, refused, then}
+use Rattle.meetings.specs.RoundTrips.{Bytes, Read-then-written}
+
+pub limit-accepted : (x at y : ℕ) → limit x at ≡ accepted y → (y ≡ x) × Within y
+limit-accepted x at y e = (grind (arith, tells), (grind (arith, tells), grind (arith, tells)))
+
+pub count-accepted : (low high y : ℕ) → count low high ≡ accepted y → (y ≡ low + 256 * high) × (y ≤ 4000)
+count-accepted low high y e = (grind (arith, tells), grind (arith, tells))
+
+party-accepted : (bs : List ℕ) (at many y : ℕ) → party-at bs at many ≡ accepted y → (at < length bs) × (y ≡ getD bs at 0) × (y < many)
+party-accepted bs at many y e = (grind (arith, tells), grind (arith, tells), grind (arith, tells))
+
+exist-none : (n k : ℕ) → Exist n k []
+exist-none n k s i h = absurd (omega arith)
+
+exist-more : (n k g s : ℕ) (ms : List Meeting) → g < n → s < k → Exist n k ms → Exist n k (meeting g s ∷ ms)
+exist-more n k g s ms hg hs more Groups zero h = hg
+exist-more n k g s ms hg hs more Stations zero h = hs
+exist-more n k g s ms hg hs more Groups (suc i) h = more Groups i (omega arith)
+exist-more n k g s ms hg hs more Stations (suc i) h = more Stations i (omega arith)
+
+-- the meetings that the bytes from one place on say
+pub record Said (bs : List ℕ) (n k left at : ℕ) (came ms : List Meeting) : Type 0 where
+  pub rest : List Meeting
+  pub whole : ms ≡ came ++ rest
+  pub many : length rest ≡ left
+  pub exist : Exist n k rest
+  pub bytes : drop at bs ≡ bytes-of-meetings rest
+
+pub said-few : {bs : List ℕ} {n k left at : ℕ} {ms : List Meeting} → Said bs n k left at [] ms → left ≤ 4000 → length ms ≤ 4000
+said-few said few = rw (said .whole, said .many) few
+
+pub said-exist : {bs : List ℕ} {n k left at : ℕ} {ms : List Meeting} → Said bs n k left at [] ms → Exist n k ms
+said-exist said = rw (said .whole) (said .exist)
+
+two-bytes : (bs : List ℕ) (at : ℕ) → at + 1 < length bs → drop at bs ≡ getD bs at 0 ∷ getD bs (at + 1) 0 ∷ drop (at + 2) bs
+two-bytes bs at h =
+    let next : at + 1 + 1 ≡ at + 2 = omega arith in
+    drop-more bs at 0 (omega arith) ∙ ap (λ l. getD bs at 0 ∷ l) (rw (← next) (drop-more bs (at + 1) 0 h))
+
+none-left : (bs : List ℕ) (n k at : ℕ) (came ms : List Meeting) → meetings-at bs n k 0 at came ≡ accepted ms → Said bs n k 0 at came ms
+none-left bs n k at came ms e =
+    let same : ms ≡ came = grind (arith, tells) in
+    let ends : length bs ≤ at = grind (arith, tells) in
+    record {
+      rest = [];
+      whole = same ∙ sym (append-nil came);
+      many = refl;
+      exist = exist-none n k;
+      bytes = drop-all at bs ends;
+    }
+
+one-more : (bs : List ℕ) (n k left at g s : ℕ) (came ms : List Meeting) → (at < length bs) × (g ≡ getD bs at 0) × (g < n) → (at + 1 < length bs) × (s ≡ getD bs (at + 1) 0) × (s < k) → Said bs n k left (at + 2) (came ++ meeting g s ∷ []) ms → Said bs n k (suc left) at came ms
+one-more bs n k left at g s came ms hg hs more = record {
+  rest = meeting g s ∷ more .rest;
+  whole = more .whole ∙ append-assoc came (meeting g s ∷ []) (more .rest);
+  many = ap suc (more .many);
+  exist = exist-more n k g s (more .rest) (hg .2) (hs .2) (more .exist);
+  bytes = two-bytes bs at (hs .0) ∙ (rw (← hg .1, ← hs .1, more .bytes) refl);
+}
+
+pub meetings-accepted : (bs : List ℕ) (n k left at : ℕ) (came ms : List Meeting) → meetings-at bs n k left at came ≡ accepted ms → Said bs n k left at came ms
+meetings-accepted bs n k zero at came ms e = none-left bs n k at came ms e
+meetings-accepted bs n k (suc left) at came ms e =
+    let m = then-accepted (meeting-at bs at n k) (λ m. meetings-at bs n k left (at + 2) (came ++ m ∷ [])) ms e in
+    let g = then-accepted (party-at bs at n) (λ g. then (party-at bs (at + 1) k) (λ s. accepted (meeting g s))) (m .0) (m .1) in
+    let s = then-accepted (party-at bs (at + 1) k) (λ s. accepted (meeting (g .0) s)) (m .0) (g .2) in
+    let is : m .0 ≡ meeting (g .0) (s .0) = cc (s .2) in
+    one-more bs n k left at (g .0) (s .0) came ms (party-accepted bs at n (g .0) (g .1)) (party-accepted bs (at + 1) k (s .0) (s .1))
+    (meetings-accepted bs n k left (at + 2) (came ++ meeting (g .0) (s .0) ∷ []) ms (rw (← is) (m .2)))
+
+five-bytes : (bs : List ℕ) → 5 ≤ length bs → bs ≡ getD bs 0 0 ∷ getD bs 1 0 ∷ getD bs 2 0 ∷ getD bs 3 0 ∷ getD bs 4 0 ∷ drop 5 bs
+five-bytes [] h = absurd (omega arith)
+five-bytes (a ∷ []) h = absurd (omega arith)
+five-bytes (a ∷ b ∷ []) h = absurd (omega arith)
+five-bytes (a ∷ b ∷ c ∷ []) h = absurd (omega arith)
+five-bytes (a ∷ b ∷ c ∷ d ∷ []) h = absurd (omega arith)
+five-bytes (a ∷ b ∷ c ∷ d ∷ e ∷ bs) h = refl
+
+-- the parts of an accepted list, put together
+whole-list : (bs : List ℕ) (n k q many : ℕ) (ms : List Meeting) → 5 ≤ length bs → getD bs 3 0 < 256 → (n ≡ getD bs 0 0) × Within n → (k ≡ getD bs 1 0) × Within k → (q ≡ getD bs 2 0) × Within q → (many ≡ getD bs 3 0 + 256 * getD bs 4 0) × (many ≤ 4000) → Said bs n k many 5 [] ms → Proper (record { groups = n; stations = k; rooms = q; meetings = ms }) × (bytes-of (record { groups = n; stations = k; rooms = q; meetings = ms }) ≡ bs)
+whole-list bs n k q many ms long byte hn hk hq hm said =
+    let all : ms ≡ said .rest = said .whole in
+    let few : length ms ≡ many = rw (all, said .many) refl in
+    let low : length ms % 256 ≡ getD bs 3 0 = omega arith in
+    let high : length ms / 256 ≡ getD bs 4 0 = omega arith in
+    let tail : bytes-of-meetings ms ≡ drop 5 bs = ap bytes-of-meetings all ∙ sym (said .bytes) in (
+      record {
+        groups-within = hn .1;
+        stations-within = hk .1;
+        rooms-within = hq .1;
+        few = said-few said (hm .1);
+        exist = said-exist said;
+      },
+      (rw (hn .0, hk .0, hq .0, low, high, tail) refl) ∙ sym (five-bytes bs long),
+    )
+
+pub read-then-written : Read-then-written
+read-then-written bs d byte e =
+    let a = unless-refused (ltb (length bs) 5) 1 (length bs) _ d e in
+    let n = then-accepted (limit (getD bs 0 0) 0) _ d (a .1) in
+    let k = then-accepted (limit (getD bs 1 0) 1) _ d (n .2) in
+    let q = then-accepted (limit (getD bs 2 0) 2) _ d (k .2) in
+    let many = then-accepted (count (getD bs 3 0) (getD bs 4 0)) _ d (q .2) in
+    let ms = then-accepted (meetings-at bs (n .0) (k .0) (many .0) 5 []) _ d (many .2) in
+    let is : record { groups = n .0; stations = k .0; rooms = q .0; meetings = ms .0 } ≡ d = cc (ms .2) in
+    rw (← is)
+    (whole-list bs (n .0) (k .0) (q .0) (many .0) (ms .0) (ltb-false (length bs) 5 (a .0)) (byte 3)
+    (limit-accepted _ 0 _ (n .1)) (limit-accepted _ 1 _ (k .1)) (limit-accepted _ 2 _ (q .1)) (count-accepted _ _ _ (many .1))
+    (meetings-accepted bs (n .0) (k .0) (many .0) 5 [] (ms .0) (ms .1)))
