@@ -1,0 +1,29 @@
+use mathlib.Core.Path.{_∙_, ap}
+use lib.ListN.{length, length-replicate}
+use Rattle.meetings.specs.declared.numbers.Side.the-variants.{Groups, Stations}
+use Rattle.fewest.proofs.Numbers.{tally-none}
+use Rattle.fewest.proofs.Ready.{few-meetings, places, tally-held}
+use Rattle.fewest.proofs.tally.Tally.of.Needs as need
+
+pub count-meetings-requires : need.count-meetings-requires
+count-meetings-requires c κs =
+    let groups = c .deref-mut .ensures .value ∙ c .in-Continue-groups .ensures tt in
+    let stations = c .deref-mut-2 .ensures .value ∙ c .in-Continue-stations .ensures tt in
+    record {
+      few = few-meetings (c .args .list .now) _ (c .meetings .ensures);
+      exist = places (c .args .list .now) _ _ _ (c .meetings .ensures) (ap length groups ∙ length-replicate _ _ ∙ c .groups .ensures) (ap length stations ∙ length-replicate _ _ ∙ c .stations .ensures);
+      no-groups = tally-none Groups (c .groups .result) (c .deref-mut .result .now) groups;
+      no-stations = tally-none Stations (c .stations .result) (c .deref-mut-2 .result .now) stations;
+    }
+
+pub returns : need.returns
+returns c Groups =
+    let long = c .count-meetings .kept .groups ∙ c .deref-mut .ensures .len in
+    let zeros = ap length (c .in-Continue-groups .ensures tt) ∙ length-replicate _ _ in
+    tally-held Groups (c .args .list .now) _ (c .in-Continue-groups .groups) (c .count-meetings .last .groups) long
+    (long ∙ c .in-Continue-groups .groups .ok .0 ∙ zeros ∙ c .groups .ensures) (c .meetings .ensures) (c .count-meetings .ensures .groups)
+returns c Stations =
+    let long = c .count-meetings .kept .stations ∙ c .deref-mut-2 .ensures .len in
+    let zeros = ap length (c .in-Continue-stations .ensures tt) ∙ length-replicate _ _ in
+    tally-held Stations (c .args .list .now) _ (c .in-Continue-stations .stations) (c .count-meetings .last .stations) long
+    (long ∙ c .in-Continue-stations .stations .ok .0 ∙ zeros ∙ c .stations .ensures) (c .meetings .ensures) (c .count-meetings .ensures .stations)

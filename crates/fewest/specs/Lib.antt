@@ -1,0 +1,5 @@
+pub mod Counting
+pub mod Plans
+pub mod Rounds
+pub mod Statements
+pub mod Tallies

@@ -1,0 +1,20 @@
+-- What the code's tally holds. Assumes nothing.
+use mathlib.Core.List.{List}
+use mathlib.Core.Path.{_≡_}
+use Prim.Native.Nat.{ℕ, _<_}
+use lib.ListN.{length, getD}
+use Rattle.std.specs.Of.Vec.{vec-items}
+use Rattle.meetings.specs.declared.numbers.Meeting.{Meeting}
+use Rattle.meetings.specs.declared.numbers.Side.{Side}
+use Rattle.meetings.specs.declared.numbers.Side.the-variants.{Groups, Stations}
+use Rattle.fewest.specs.declared.tally.Tally.{Tally}
+use Rattle.fewest.specs.Rounds.{meetings-of}
+
+-- each entry is the number of meetings of that party
+abbrev pub Tallied : Side → List Meeting → List ℕ → Type 0
+Tallied s ms xs = (p : ℕ) → p < length xs → getD xs p 0 ≡ meetings-of s p ms
+
+-- the number of meetings of each party of a side, as the code holds it
+abbrev pub held : Tally → Side → List ℕ
+held t Groups = vec-items (t .groups)
+held t Stations = vec-items (t .stations)
