@@ -1,4 +1,5 @@
 pub mod Counting
+pub mod Days
 pub mod Plans
 pub mod Rounds
 pub mod Statements

@@ -4,12 +4,11 @@ ghost use mathlib.Core.Path.{_≡_};
 ghost use Prim.Native.Nat.{_+_, _^_, _≤_, _<_, max};
 ghost use lib.ListN.{length, getD, set, replicate};
 ghost use Rattle.std.specs.Of.Vec.{vec-items};
-ghost use Rattle.std.specs.Results.{Cases};
 ghost use Rattle.meetings.specs.Held.{contents};
 ghost use Rattle.meetings.specs.Lists.{Exist};
 ghost use Rattle.meetings.specs.declared.numbers.Side.the-variants.{Groups, Stations};
 ghost use Rattle.meetings.specs.declared.numbers.Side.{Side};
-ghost use Rattle.meetings.specs.declared.refusal.Refusal.the-variants.{Memory};
+ghost use Rattle.meetings.specs.Refusals.{If-memory};
 ghost use Rattle.fewest.specs.Rounds.{largest, numbers};
 ghost use Rattle.fewest.specs.Tallies.{Tallied, held};
 use meetings::Meeting;
@@ -62,7 +61,7 @@ fn largest_of(numbers: &[u16]) -> u16
 
 // So many zeros.
 fn zeros(heap: Global, many: u16) -> Result<Vec<u16>, Refusal>
-    ensures { λ r. ⌜ Cases r (λ v. vec-items v ≡ replicate many 0) (λ e. e ≡ Memory) ⌝ }
+    ensures { λ r. ⌜ If-memory r (λ v. vec-items v ≡ replicate many 0) ⌝ }
 {
     Ok(vec![in heap; 0u16; many as usize]?)
 }
@@ -70,7 +69,7 @@ fn zeros(heap: Global, many: u16) -> Result<Vec<u16>, Refusal>
 impl Tally {
     // Counts the meetings of a list. Only memory can be wanting.
     pub fn of(heap: Global, list: &MeetingList) -> Result<Tally, Refusal>
-        ensures { λ r. ⌜ Cases r (λ t. (s : Side) → held t s ≡ numbers s (contents (now (list .entry)))) (λ e. e ≡ Memory) ⌝ }
+        ensures { λ r. ⌜ If-memory r (λ t. (s : Side) → held t s ≡ numbers s (contents (now (list .entry)))) ⌝ }
     {
         let mut groups = zeros(heap, list.groups())?;
         let mut stations = zeros(heap, list.stations())?;

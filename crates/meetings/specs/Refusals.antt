@@ -4,6 +4,7 @@ use mathlib.Core.Logic.{_⊎_}
 use Prim.Native.Nat.{ℕ, _+_}
 use Rattle.std.specs.declared.result.Result.{Result}
 use Rattle.std.specs.declared.result.Result.the-variants.{Ok, Err}
+use Rattle.std.specs.Results.{Cases}
 use Rattle.meetings.specs.declared.numbers.Side as side
 use Rattle.meetings.specs.declared.numbers.Side.{Side}
 use Rattle.meetings.specs.declared.refusal.Limit as limit
@@ -81,6 +82,10 @@ outcome means (Err e) = refused (number-of e) (place-of e)
 -- a call that allocates answers what the rule says, or that there is no memory
 abbrev pub Answers : {X T : Type 0} → (X → T) → Result X Refusal → Outcome T → Type 0
 Answers means r o = (r ≡ Err Memory) ⊎ (outcome means r ≡ o)
+
+-- a call that refuses only for want of memory, and else gives what is said
+abbrev pub If-memory : {X : Type 0} → Result X Refusal → (X → Type 0) → Type 0
+If-memory r P = Cases r P (λ e. e ≡ Memory)
 
 -- a rule that goes on from what was accepted, and refuses as before
 abbrev pub then : {S T : Type 0} → Outcome S → (S → Outcome T) → Outcome T

@@ -4,7 +4,7 @@ ghost use Rattle.std.specs.Of.Vec.{vec-items};
 ghost use Rattle.std.specs.Vec.{made};
 ghost use Rattle.meetings.specs.Bytes.{read-list, bytes-of};
 ghost use Rattle.meetings.specs.Held.{contents};
-ghost use Rattle.meetings.specs.Refusals.{accepted, Answers};
+ghost use Rattle.meetings.specs.Refusals.{accepted, If-memory};
 use crate::list::MeetingList;
 use crate::refusal::Refusal;
 use crate::refusal::RefusalFromAlloc;
@@ -12,7 +12,7 @@ use std::alloc::Global;
 
 // The bytes that say this list. Only memory can be wanting.
 pub fn write(heap: Global, list: &MeetingList) -> Result<Vec<u8>, Refusal>
-    ensures answer { λ r. ⌜ Answers vec-items r (accepted (bytes-of (contents (now (list .entry))))) ⌝ }
+    ensures answer { λ r. ⌜ If-memory r (λ v. vec-items v ≡ bytes-of (contents (now (list .entry)))) ⌝ }
     ensures back { λ r. ⌜ made r (λ v. read-list (vec-items v) ≡ accepted (contents (now (list .entry)))) ⌝ }
 {
     let mut bytes = Vec::new(heap);

@@ -1,10 +1,7 @@
-use mathlib.Core.Logic.{inr}
-use mathlib.Core.Path.{sym, ap, _∙_}
-use native.Mathlib.Omega.{arith}
+use mathlib.Core.Path.{ap, _∙_}
 use Rattle.std.specs.Of.Vec.{vec-items}
 use Rattle.meetings.specs.declared.numbers.Side.the-variants.{Groups, Stations}
 use Rattle.meetings.specs.Bytes.{read-list}
-use Rattle.meetings.specs.Refusals.{accepted}
 use Rattle.meetings.proofs.Holds.{proper, party-fits}
 use Rattle.meetings.proofs.Turns.{write-one, write-all}
 use Rattle.meetings.proofs.Written.{written-then-read}
@@ -28,4 +25,4 @@ loop-meeting-again c =
 pub returns : need.returns
 returns c =
     let e = write-all (vec-items (c .loop-meeting .bytes)) (c .meetings-meetings .result .now) _ (c .loop-meeting-test .left) (c .loop-meeting .inv) in
-    record { answer = inr (ap accepted e); back = ap read-list e ∙ written-then-read _ (proper (c .args .list .now)) }
+    record { answer = e; back = ap read-list e ∙ written-then-read _ (proper (c .args .list .now)) }

@@ -1,0 +1,29 @@
+// What is proved of the number of rounds for every list, each as the contract of a function that does nothing.
+ghost use Rattle.fewest.specs.Counting.{By-rounds};
+ghost use Rattle.fewest.specs.Days.{Days-right};
+ghost use Rattle.fewest.specs.Statements.{Busiest, Fewest-least, No-fewer};
+
+// What is counted round by round is counted whole.
+pub fn counted_by_rounds()
+    ensures { λ _. ⌜ By-rounds ⌝ }
+{}
+
+// The busiest number is that of some party, or 0, and no party has more.
+pub fn busiest_is_largest()
+    ensures { λ _. ⌜ Busiest ⌝ }
+{}
+
+// The number of rounds is the least that suffices for the busiest and for the rooms.
+pub fn fewest_is_least()
+    ensures { λ _. ⌜ Fewest-least ⌝ }
+{}
+
+// No plan within the rooms has fewer rounds.
+pub fn no_plan_has_fewer()
+    ensures { λ _. ⌜ No-fewer ⌝ }
+{}
+
+// The table of small days is right.
+pub fn days_are_right()
+    ensures { λ _. ⌜ Days-right ⌝ }
+{}
