@@ -7,10 +7,9 @@ ghost use Rattle.std.specs.Of.Vec.{vec-items};
 ghost use Rattle.meetings.specs.Held.{contents};
 ghost use Rattle.meetings.specs.Lists.{Exist};
 ghost use Rattle.meetings.specs.declared.numbers.Side.the-variants.{Groups, Stations};
-ghost use Rattle.meetings.specs.declared.numbers.Side.{Side};
 ghost use Rattle.meetings.specs.Refusals.{If-memory};
-ghost use Rattle.fewest.specs.Rounds.{largest, numbers};
-ghost use Rattle.fewest.specs.Tallies.{Tallied, held};
+ghost use Rattle.fewest.specs.Rounds.{largest};
+ghost use Rattle.fewest.specs.Tallies.{Counts, Tallied};
 use meetings::Meeting;
 use meetings::MeetingList;
 use meetings::Refusal;
@@ -69,7 +68,7 @@ fn zeros(heap: Global, many: u16) -> Result<Vec<u16>, Refusal>
 impl Tally {
     // Counts the meetings of a list. Only memory can be wanting.
     pub fn of(heap: Global, list: &MeetingList) -> Result<Tally, Refusal>
-        ensures { λ r. ⌜ If-memory r (λ t. (s : Side) → held t s ≡ numbers s (contents (now (list .entry)))) ⌝ }
+        ensures { λ r. ⌜ If-memory r (Counts (contents (now (list .entry)))) ⌝ }
     {
         let mut groups = zeros(heap, list.groups())?;
         let mut stations = zeros(heap, list.stations())?;
@@ -79,7 +78,7 @@ impl Tally {
 
     // The most meetings that a group or a station has.
     pub fn busiest(&self) -> u16
-        ensures { λ r. ⌜ r ≡ max (largest (held (now (self .entry)) Groups)) (largest (held (now (self .entry)) Stations)) ⌝ }
+        ensures { λ r. ⌜ r ≡ max (largest (vec-items (now (self .entry) .groups))) (largest (vec-items (now (self .entry) .stations))) ⌝ }
     {
         largest_of(&self.groups).max(largest_of(&self.stations))
     }

@@ -1,4 +1,5 @@
 pub mod Accepted
+pub mod Apart
 pub mod Holds
 pub mod Outcomes
 pub mod Turns

@@ -3,3 +3,4 @@ pub mod Held
 pub mod Lists
 pub mod Refusals
 pub mod RoundTrips
+pub mod ToldApart

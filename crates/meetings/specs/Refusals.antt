@@ -1,10 +1,13 @@
 -- The number and the place of each refusal, and what a call answers that may refuse. Assumes nothing.
 use mathlib.Core.Path.{_≡_}
 use mathlib.Core.Logic.{_⊎_}
+use mathlib.Core.List.{List, _++_}
 use Prim.Native.Nat.{ℕ, _+_}
+use lib.Chars.{codes}
 use Rattle.std.specs.declared.result.Result.{Result}
 use Rattle.std.specs.declared.result.Result.the-variants.{Ok, Err}
 use Rattle.std.specs.Results.{Cases}
+use Rattle.std.specs.Written.{decimal}
 use Rattle.meetings.specs.declared.numbers.Side as side
 use Rattle.meetings.specs.declared.numbers.Side.{Side}
 use Rattle.meetings.specs.declared.refusal.Limit as limit
@@ -68,6 +71,10 @@ place-of (Clash s i) = place-of-clash s (i .0)
 place-of (Crowded c) = c .0
 place-of (NotFewest r) = r
 place-of Memory = 0
+
+-- the line in which a refusal is told
+abbrev pub refusal-text : Refusal → List ℕ
+refusal-text e = codes "refused " ++ (decimal (number-of e) ++ (codes " at " ++ decimal (place-of e)))
 
 -- what a rule says of its input: a value, or a refusal by its number and its place
 pub data Outcome (T : Type 0) : Type 0 where

@@ -1,6 +1,7 @@
 // Why something is refused: one kind for each reason, each with a number and a place.
 ghost use mathlib.Core.Path.{_≡_};
-ghost use Rattle.meetings.specs.Refusals.{number-of, place-of};
+ghost use Rattle.meetings.specs.Refusals.{number-of, place-of, refusal-text};
+ghost use Rattle.std.specs.declared.option.Option.the-variants.{Some};
 ghost use Rattle.meetings.specs.declared.refusal.Refusal.the-variants.{Memory};
 use crate::numbers::MeetingId;
 use crate::numbers::MeetingIdDebug;
@@ -13,6 +14,7 @@ use crate::numbers::SideDebug;
 use crate::numbers::SidePartialEq;
 use std::alloc::AllocError;
 use std::alloc::Refused;
+use std::fmt;
 
 // The three numbers at the head of a list, each 1 to 120.
 #[derive(Clone, Copy, PartialEq, Eq, Debug)]
@@ -97,6 +99,17 @@ impl Refusal {
             Refusal::NotFewest(rounds) => rounds as usize,
             Refusal::Memory => 0,
         }
+    }
+}
+
+// A refusal is told in one line, by its number and its place.
+pub impl fmt::Display for Refusal as RefusalDisplay {
+    ghost shown = { λ e. Some (refusal-text e) };
+
+    fn fmt<W: fmt::Write>(&self, f: &mut fmt::Formatter<W>) -> fmt::Result {
+        let number = self.number();
+        let place = self.place();
+        write!(f, "refused {number} at {place}")
     }
 }
 

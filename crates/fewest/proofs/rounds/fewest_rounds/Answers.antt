@@ -1,15 +1,18 @@
-use mathlib.Core.Path.{_≡_, _∙_}
-use lib.ListN.{length}
-use Rattle.meetings.specs.declared.numbers.Side.the-variants.{Groups, Stations}
+-- What the number is was answered; the theorems on it say the rest.
+use Rattle.std.specs.Vec.{made}
 use Rattle.meetings.specs.Held.{contents}
 use Rattle.meetings.proofs.Holds.{proper}
-use Rattle.fewest.proofs.NoFewer.{fewest-parts, least-said, no-fewer-said}
+use Rattle.meetings.proofs.Outcomes.{made-if-memory}
+use Rattle.fewest.proofs.NoFewer.{least-said, no-fewer-said}
 use Rattle.fewest.proofs.rounds.fewest_rounds.Needs as need
 
 pub returns : need.returns
 returns c =
     let d = contents (c .args .list .now) in
-    let counted = c .in-Continue-tally .ensures tt in
     let some = proper (c .args .list .now) .rooms-within .0 in
-    let said = fewest-parts d (counted Groups) (counted Stations) (c .busiest .ensures) (c .meetings .ensures) (c .rooms-rooms .ensures) (c .max .ensures) in
-    record { answer = said; least = least-said d _ some said; no-fewer = no-fewer-said d _ some said }
+    let said = c .number-of-rounds .ensures in
+    record {
+      answer = said;
+      least = made-if-memory _ said (λ x e. least-said d x some e);
+      no-fewer = made-if-memory _ said (λ x e. no-fewer-said d x some e);
+    }

@@ -17,13 +17,10 @@ count-meetings-requires c κs =
     }
 
 pub returns : need.returns
-returns c Groups =
-    let long = c .count-meetings .kept .groups ∙ c .deref-mut .ensures .len in
-    let zeros = ap length (c .in-Continue-groups .ensures tt) ∙ length-replicate _ _ in
-    tally-held Groups (c .args .list .now) _ (c .in-Continue-groups .groups) (c .count-meetings .last .groups) long
-    (long ∙ c .in-Continue-groups .groups .ok .0 ∙ zeros ∙ c .groups .ensures) (c .meetings .ensures) (c .count-meetings .ensures .groups)
-returns c Stations =
-    let long = c .count-meetings .kept .stations ∙ c .deref-mut-2 .ensures .len in
-    let zeros = ap length (c .in-Continue-stations .ensures tt) ∙ length-replicate _ _ in
-    tally-held Stations (c .args .list .now) _ (c .in-Continue-stations .stations) (c .count-meetings .last .stations) long
-    (long ∙ c .in-Continue-stations .stations .ok .0 ∙ zeros ∙ c .stations .ensures) (c .meetings .ensures) (c .count-meetings .ensures .stations)
+returns c =
+    let groups = c .count-meetings .kept .groups ∙ c .deref-mut .ensures .len in
+    let stations = c .count-meetings .kept .stations ∙ c .deref-mut-2 .ensures .len in
+    record {
+      of-groups = tally-held Groups (c .args .list .now) _ (c .in-Continue-groups .groups) (c .count-meetings .last .groups) groups (groups ∙ c .in-Continue-groups .groups .ok .0 ∙ ap length (c .in-Continue-groups .ensures tt) ∙ length-replicate _ _ ∙ c .groups .ensures) (c .meetings .ensures) (c .count-meetings .ensures .groups);
+      of-stations = tally-held Stations (c .args .list .now) _ (c .in-Continue-stations .stations) (c .count-meetings .last .stations) stations (stations ∙ c .in-Continue-stations .stations .ok .0 ∙ ap length (c .in-Continue-stations .ensures tt) ∙ length-replicate _ _ ∙ c .stations .ensures) (c .meetings .ensures) (c .count-meetings .ensures .stations);
+    }

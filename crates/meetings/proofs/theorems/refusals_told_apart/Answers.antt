@@ -1,0 +1,5 @@
+use Rattle.meetings.proofs.Apart.{told-apart}
+use Rattle.meetings.proofs.theorems.refusals_told_apart.Needs as need
+
+pub returns : need.returns
+returns c = told-apart
