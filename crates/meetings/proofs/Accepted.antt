@@ -25,8 +25,31 @@ limit-accepted x at y e = (grind (arith, tells), (grind (arith, tells), grind (a
 pub count-accepted : (low high y : ℕ) → count low high ≡ accepted y → (y ≡ low + 256 * high) × (y ≤ 4000)
 count-accepted low high y e = (grind (arith, tells), grind (arith, tells))
 
-party-accepted : (bs : List ℕ) (at many y : ℕ) → party-at bs at many ≡ accepted y → (at < length bs) × (y ≡ getD bs at 0) × (y < many)
+-- a party that is accepted is the byte at its place, and exists
+abbrev pub Named : List ℕ → ℕ → ℕ → ℕ → Type 0
+Named bs at many p = (at < length bs) × (p ≡ getD bs at 0) × (p < many)
+
+pub party-accepted : (bs : List ℕ) (at many y : ℕ) → party-at bs at many ≡ accepted y → Named bs at many y
 party-accepted bs at many y e = (grind (arith, tells), grind (arith, tells), grind (arith, tells))
+
+pub record Met (bs : List ℕ) (at n k : ℕ) (m : Meeting) : Type 0 where
+  pub g : ℕ
+  pub s : ℕ
+  pub is : m ≡ meeting g s
+  pub group-named : Named bs at n g
+  pub station-named : Named bs (at + 1) k s
+
+pub meeting-accepted : (bs : List ℕ) (at n k : ℕ) (m : Meeting) → meeting-at bs at n k ≡ accepted m → Met bs at n k m
+meeting-accepted bs at n k m e =
+    let group = then-accepted (party-at bs at n) (λ g. then (party-at bs (at + 1) k) (λ s. accepted (meeting g s))) m e in
+    let station = then-accepted (party-at bs (at + 1) k) (λ s. accepted (meeting (group .0) s)) m (group .2) in
+    record {
+      g = group .0;
+      s = station .0;
+      is = cc (station .2);
+      group-named = party-accepted bs at n (group .0) (group .1);
+      station-named = party-accepted bs (at + 1) k (station .0) (station .1);
+    }
 
 exist-none : (n k : ℕ) → Exist n k []
 exist-none n k s i h = absurd (omega arith)
@@ -68,24 +91,21 @@ none-left bs n k at came ms e =
       bytes = drop-all at bs ends;
     }
 
-one-more : (bs : List ℕ) (n k left at g s : ℕ) (came ms : List Meeting) → (at < length bs) × (g ≡ getD bs at 0) × (g < n) → (at + 1 < length bs) × (s ≡ getD bs (at + 1) 0) × (s < k) → Said bs n k left (at + 2) (came ++ meeting g s ∷ []) ms → Said bs n k (suc left) at came ms
-one-more bs n k left at g s came ms hg hs more = record {
-  rest = meeting g s ∷ more .rest;
-  whole = more .whole ∙ append-assoc came (meeting g s ∷ []) (more .rest);
+one-more : (bs : List ℕ) (n k left at : ℕ) (came ms : List Meeting) (m : Meeting) (met : Met bs at n k m) → Said bs n k left (at + 2) (came ++ m ∷ []) ms → Said bs n k (suc left) at came ms
+one-more bs n k left at came ms m met more = record {
+  rest = m ∷ more .rest;
+  whole = more .whole ∙ append-assoc came (m ∷ []) (more .rest);
   many = ap suc (more .many);
-  exist = exist-more n k g s (more .rest) (hg .2) (hs .2) (more .exist);
-  bytes = two-bytes bs at (hs .0) ∙ (rw (← hg .1, ← hs .1, more .bytes) refl);
+  exist = rw (met .is) (exist-more n k (met .g) (met .s) (more .rest) (met .group-named .2) (met .station-named .2) (more .exist));
+  bytes = two-bytes bs at (met .station-named .0) ∙ (rw (← met .group-named .1, ← met .station-named .1, more .bytes, met .is) refl);
 }
 
 pub meetings-accepted : (bs : List ℕ) (n k left at : ℕ) (came ms : List Meeting) → meetings-at bs n k left at came ≡ accepted ms → Said bs n k left at came ms
 meetings-accepted bs n k zero at came ms e = none-left bs n k at came ms e
 meetings-accepted bs n k (suc left) at came ms e =
     let m = then-accepted (meeting-at bs at n k) (λ m. meetings-at bs n k left (at + 2) (came ++ m ∷ [])) ms e in
-    let g = then-accepted (party-at bs at n) (λ g. then (party-at bs (at + 1) k) (λ s. accepted (meeting g s))) (m .0) (m .1) in
-    let s = then-accepted (party-at bs (at + 1) k) (λ s. accepted (meeting (g .0) s)) (m .0) (g .2) in
-    let is : m .0 ≡ meeting (g .0) (s .0) = cc (s .2) in
-    one-more bs n k left at (g .0) (s .0) came ms (party-accepted bs at n (g .0) (g .1)) (party-accepted bs (at + 1) k (s .0) (s .1))
-    (meetings-accepted bs n k left (at + 2) (came ++ meeting (g .0) (s .0) ∷ []) ms (rw (← is) (m .2)))
+    one-more bs n k left at came ms (m .0) (meeting-accepted bs at n k (m .0) (m .1))
+    (meetings-accepted bs n k left (at + 2) (came ++ m .0 ∷ []) ms (m .2))
 
 five-bytes : (bs : List ℕ) → 5 ≤ length bs → bs ≡ getD bs 0 0 ∷ getD bs 1 0 ∷ getD bs 2 0 ∷ getD bs 3 0 ∷ getD bs 4 0 ∷ drop 5 bs
 five-bytes [] h = absurd (omega arith)

@@ -1,5 +1,6 @@
 pub mod Accepted
 pub mod Apart
+pub mod FirstFault
 pub mod Holds
 pub mod Outcomes
 pub mod Turns

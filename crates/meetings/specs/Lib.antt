@@ -1,4 +1,5 @@
 pub mod Bytes
+pub mod Faults
 pub mod Held
 pub mod Lists
 pub mod Refusals

@@ -27,5 +27,6 @@ pub use refusal::RefusalFromRefused;
 pub use refusal::RefusalPartialEq;
 pub use theorems::read_as_written;
 pub use theorems::refusals_told_apart;
+pub use theorems::refused_for_the_first_fault;
 pub use theorems::written_as_read;
 pub use writing::write;
