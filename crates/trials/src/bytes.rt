@@ -53,15 +53,15 @@ fn each_truncation_is_refused_at_its_length(rt: LibcRuntime) -> Result<(), Fail>
 
 #[test]
 fn bytes_that_go_on_are_refused_at_the_first_too_many(rt: LibcRuntime) -> Result<(), Fail> {
-    check_eq(
-        told(rt.alloc(), &[3, 2, 4, 2, 0, 2, 1, 0, 0, 0]),
-        Some((1, 9)),
-    )?;
-    check_eq(
-        told(rt.alloc(), &[3, 2, 4, 2, 0, 2, 1, 0, 0, 0, 0, 0]),
-        Some((1, 9)),
-    )?;
-    check_eq(told(rt.alloc(), &[1, 1, 1, 0, 0, 0]), Some((1, 5)))
+    let cases: [(&[u8], usize); 3] = [
+        (&[3, 2, 4, 2, 0, 2, 1, 0, 0, 0], 9),
+        (&[3, 2, 4, 2, 0, 2, 1, 0, 0, 0, 0, 0], 9),
+        (&[1, 1, 1, 0, 0, 0], 5),
+    ];
+    for (bytes, place) in cases {
+        check_eq(told(rt.alloc(), bytes), Some((1, place)))?;
+    }
+    Ok(())
 }
 
 #[test]
@@ -100,39 +100,42 @@ fn meetings_at_their_limit(rt: LibcRuntime) -> Result<(), Fail> {
 
 #[test]
 fn parties_at_their_limits(rt: LibcRuntime) -> Result<(), Fail> {
-    for groups in [1u8, 2, 120] {
-        check_eq(told(rt.alloc(), &[groups, 1, 1, 1, 0, groups - 1, 0]), None)?;
-        check_eq(
-            told(rt.alloc(), &[groups, 1, 1, 1, 0, groups, 0]),
-            Some((4, 5)),
-        )?;
-        check_eq(told(rt.alloc(), &[1, groups, 1, 1, 0, 0, groups - 1]), None)?;
-        check_eq(
-            told(rt.alloc(), &[1, groups, 1, 1, 0, 0, groups]),
-            Some((4, 6)),
-        )?;
+    for many in [1u8, 2, 120] {
+        for at in 0..2usize {
+            let mut bytes = [1, 1, 1, 1, 0, 0, 0];
+            bytes[at] = many;
+            bytes[5 + at] = many - 1;
+            check_eq(told(rt.alloc(), &bytes), None)?;
+            bytes[5 + at] = many;
+            check_eq(told(rt.alloc(), &bytes), Some((4, 5 + at)))?;
+        }
     }
-    check_eq(told(rt.alloc(), &[2, 2, 1, 2, 0, 1, 1, 1, 2]), Some((4, 8)))?;
-    check_eq(
-        told(rt.alloc(), &[2, 2, 1, 2, 0, 1, 1, 255, 255]),
-        Some((4, 7)),
-    )
+    Ok(())
 }
 
 #[test]
 fn the_first_fault_is_told(rt: LibcRuntime) -> Result<(), Fail> {
-    // too short before all else
-    check_eq(told(rt.alloc(), &[0, 0, 0, 255]), Some((1, 4)))?;
-    check_eq(told(rt.alloc(), &[]), Some((1, 0)))?;
-    // then in the order of the bytes
-    check_eq(told(rt.alloc(), &[121, 0, 0, 255, 255]), Some((2, 0)))?;
-    check_eq(told(rt.alloc(), &[1, 0, 0, 255, 255]), Some((2, 1)))?;
-    check_eq(told(rt.alloc(), &[1, 1, 0, 255, 255]), Some((2, 2)))?;
-    check_eq(told(rt.alloc(), &[1, 1, 1, 255, 255]), Some((3, 3)))?;
-    // a group that does not exist before the bytes that are missing, and before one too many
-    check_eq(told(rt.alloc(), &[1, 1, 1, 2, 0, 1]), Some((4, 5)))?;
-    check_eq(told(rt.alloc(), &[1, 1, 1, 2, 0, 0]), Some((1, 6)))?;
-    check_eq(told(rt.alloc(), &[1, 1, 1, 1, 0, 0, 1, 0]), Some((4, 6)))
+    let cases: [(&[u8], (u8, usize)); 11] = [
+        // too short before all else
+        (&[0, 0, 0, 255], (1, 4)),
+        (&[], (1, 0)),
+        // then in the order of the bytes
+        (&[121, 0, 0, 255, 255], (2, 0)),
+        (&[1, 0, 0, 255, 255], (2, 1)),
+        (&[1, 1, 0, 255, 255], (2, 2)),
+        (&[1, 1, 1, 255, 255], (3, 3)),
+        // a group that does not exist before the bytes that are missing, and a station before one byte too many
+        (&[1, 1, 1, 2, 0, 1], (4, 5)),
+        (&[1, 1, 1, 2, 0, 0], (1, 6)),
+        (&[1, 1, 1, 1, 0, 0, 1, 0], (4, 6)),
+        // in the second meeting
+        (&[2, 2, 1, 2, 0, 1, 1, 1, 2], (4, 8)),
+        (&[2, 2, 1, 2, 0, 1, 1, 255, 255], (4, 7)),
+    ];
+    for (bytes, right) in cases {
+        check_eq(told(rt.alloc(), bytes), Some(right))?;
+    }
+    Ok(())
 }
 
 #[test]

@@ -41,17 +41,19 @@ fn rounds_of(heap: Global, bytes: &[u8]) -> Result<u16, Refusal> {
 
 #[test]
 fn worked_days(rt: LibcRuntime) -> Result<(), Fail> {
-    let heap = rt.alloc();
-    let square = bytes_of(heap, 2, 2, 2, &[(0, 0), (0, 1), (1, 0), (1, 1)])?;
-    check_eq(rounds_of(heap, &square)?, 2)?;
-    let one_room = bytes_of(heap, 3, 3, 1, &[(0, 0), (1, 1), (2, 2)])?;
-    check_eq(rounds_of(heap, &one_room)?, 3)?;
-    let twice = bytes_of(heap, 1, 2, 9, &[(0, 0), (0, 0), (0, 1)])?;
-    check_eq(rounds_of(heap, &twice)?, 3)?;
-    let none = bytes_of(heap, 1, 1, 4, &[])?;
-    check_eq(rounds_of(heap, &none)?, 0)?;
-    let cross = bytes_of(heap, 3, 3, 2, &[(0, 0), (0, 1), (0, 2), (1, 0), (2, 0)])?;
-    check_eq(rounds_of(heap, &cross)?, 3)
+    // meetings, rooms, rounds; three groups and three stations
+    let days: [(&[(u8, u8)], u8, u16); 5] = [
+        (&[(0, 0), (0, 1), (1, 0), (1, 1)], 2, 2),
+        (&[(0, 0), (1, 1), (2, 2)], 1, 3),
+        (&[(0, 0), (0, 0), (0, 1)], 9, 3),
+        (&[], 4, 0),
+        (&[(0, 0), (0, 1), (0, 2), (1, 0), (2, 0)], 2, 3),
+    ];
+    for (meetings, rooms, rounds) in days {
+        let bytes = bytes_of(rt.alloc(), 3, 3, rooms, meetings)?;
+        check_eq(rounds_of(rt.alloc(), &bytes)?, rounds)?;
+    }
+    Ok(())
 }
 
 // Each of five groups with each of five stations: 25 meetings fill 5 rounds of 5 rooms, and need 7 of 4.
