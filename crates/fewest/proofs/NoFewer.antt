@@ -100,10 +100,7 @@ fewest-least d some = (fewest-suffices d some, λ r. least d r some)
 pub no-fewer : No-fewer
 no-fewer d r xs some plan rooms = let enough = suffices d r xs plan rooms in (enough, least d r some enough)
 
--- the same of a number that was computed part by part
-pub fewest-parts : (d : Contents) {gs ss : List ℕ} {ms : List Meeting} {b q x : ℕ} → gs ≡ numbers Groups d → ss ≡ numbers Stations d → b ≡ max (largest gs) (largest ss) → ms ≡ d .meetings → q ≡ d .rooms → x ≡ max b ((length ms + (q - 1)) / q) → x ≡ fewest d
-fewest-parts d eg es eb em eq ex = rw (ex, eb, eg, es, em, eq) refl
-
+-- the same of a number that was computed
 pub least-said : (d : Contents) (x : ℕ) → 1 ≤ d .rooms → x ≡ fewest d → Least d x
 least-said d x some e = rw e (fewest-least d some)
 

@@ -14,7 +14,7 @@ use Rattle.std.proofs.shelf.Sums.{countBy-le-length, countBy-more-yes, countBy-
 use Rattle.std.proofs.shelf.Tests.{cases-eq, eq-eqb, ne-eqb}
 use Rattle.meetings.specs.declared.numbers.Meeting.{Meeting}
 use Rattle.meetings.specs.declared.numbers.Side.{Side}
-use Rattle.meetings.specs.Lists.{party, nobody}
+use Rattle.meetings.specs.Lists.{party, nobody, most-meetings}
 use Rattle.fewest.specs.Rounds.{largest, meetings-of}
 use Rattle.fewest.specs.Tallies.{Tallied}
 
@@ -22,7 +22,7 @@ one-more-here : (xs : List ℕ) (x p : ℕ) → x < length xs → x ≡ p → ge
 one-more-here xs x p within same = rw (← same) (getD-set-same xs x (getD xs x 0 + 1) 0 within)
 
 module _ (s : Side) (ms : List Meeting) (i : ℕ) (xs : List ℕ) (here : i < length ms) (sofar : Tallied s (take i ms) xs) where
-  pub tally-fits : (p : ℕ) → p < length xs → length ms ≤ 4000 → getD xs p 0 + 1 < 2 ^ 16
+  pub tally-fits : (p : ℕ) → p < length xs → length ms ≤ most-meetings → getD xs p 0 + 1 < 2 ^ 16
   tally-fits p h few =
       let some = countBy-le-length (λ m. eqb (party s m) p) (take i ms) in
       let short = length-take i ms in

@@ -12,13 +12,13 @@ use Rattle.meetings.specs.declared.list.MeetingList.{MeetingList}
 use Rattle.meetings.specs.declared.numbers.Meeting.{Meeting}
 use Rattle.meetings.specs.declared.numbers.Side.{Side}
 use Rattle.meetings.specs.Held.{contents}
-use Rattle.meetings.specs.Lists.{Exist, parties}
+use Rattle.meetings.specs.Lists.{Exist, parties, most-meetings}
 use Rattle.meetings.proofs.Holds.{proper}
 use Rattle.fewest.specs.Rounds.{meetings-of, numbers}
 use Rattle.fewest.specs.Tallies.{Tallied}
 use Rattle.fewest.proofs.Numbers.{tally-is}
 
-pub few-meetings : (l : MeetingList) (ms : List Meeting) → ms ≡ contents l .meetings → length ms ≤ 4000
+pub few-meetings : (l : MeetingList) (ms : List Meeting) → ms ≡ contents l .meetings → length ms ≤ most-meetings
 few-meetings l ms e = rw e (proper l .few)
 
 pub places : (l : MeetingList) (ms : List Meeting) (n k : ℕ) → ms ≡ contents l .meetings → n ≡ contents l .groups → k ≡ contents l .stations → Exist n k ms

@@ -5,7 +5,7 @@ ghost use Prim.Native.Nat.{_+_, _^_, _≤_, _<_, max};
 ghost use lib.ListN.{length, getD, set, replicate};
 ghost use Rattle.std.specs.Of.Vec.{vec-items};
 ghost use Rattle.meetings.specs.Held.{contents};
-ghost use Rattle.meetings.specs.Lists.{Exist};
+ghost use Rattle.meetings.specs.Lists.{Exist, most-meetings};
 ghost use Rattle.meetings.specs.declared.numbers.Side.the-variants.{Groups, Stations};
 ghost use Rattle.meetings.specs.Refusals.{If-memory};
 ghost use Rattle.fewest.specs.Rounds.{largest};
@@ -34,7 +34,7 @@ fn count_one(numbers: &mut [u16], party: u16)
 
 // One pass over the meetings: each is counted for its group and for its station.
 fn count_meetings(meetings: &[Meeting], groups: &mut [u16], stations: &mut [u16])
-    requires few { ⌜ length (now meetings) ≤ 4000 ⌝ }
+    requires few { ⌜ length (now meetings) ≤ most-meetings ⌝ }
     requires exist { ⌜ Exist (length (now groups)) (length (now stations)) (now meetings) ⌝ }
     requires no_groups { ⌜ Tallied Groups [] (now groups) ⌝ }
     requires no_stations { ⌜ Tallied Stations [] (now stations) ⌝ }

@@ -15,14 +15,14 @@ use Rattle.meetings.specs.declared.numbers.Meeting.{Meeting}
 use Rattle.meetings.specs.declared.numbers.Side.{Side}
 use Rattle.meetings.specs.declared.numbers.Side.the-variants.{Groups, Stations}
 use Rattle.meetings.specs.Bytes.{limit, count, party-at, meeting-at, meetings-at, read-list, bytes-of-meetings, bytes-of}
-use Rattle.meetings.specs.Lists.{Contents, Proper, Exist, Within, meeting, nobody, party, parties}
+use Rattle.meetings.specs.Lists.{Contents, Proper, Exist, Within, meeting, nobody, party, parties, most-meetings}
 use Rattle.meetings.specs.Refusals.{Outcome, accepted, refused, then}
 use Rattle.meetings.specs.RoundTrips.{Bytes, Read-then-written}
 
 pub limit-accepted : (x at y : ℕ) → limit x at ≡ accepted y → (y ≡ x) × Within y
 limit-accepted x at y e = (grind (arith, tells), (grind (arith, tells), grind (arith, tells)))
 
-pub count-accepted : (low high y : ℕ) → count low high ≡ accepted y → (y ≡ low + 256 * high) × (y ≤ 4000)
+pub count-accepted : (low high y : ℕ) → count low high ≡ accepted y → (y ≡ low + 256 * high) × (y ≤ most-meetings)
 count-accepted low high y e = (grind (arith, tells), grind (arith, tells))
 
 -- a party that is accepted is the byte at its place, and exists
@@ -68,7 +68,7 @@ pub record Said (bs : List ℕ) (n k left at : ℕ) (came ms : List Meeting) : T
   pub exist : Exist n k rest
   pub bytes : drop at bs ≡ bytes-of-meetings rest
 
-pub said-few : {bs : List ℕ} {n k left at : ℕ} {ms : List Meeting} → Said bs n k left at [] ms → left ≤ 4000 → length ms ≤ 4000
+pub said-few : {bs : List ℕ} {n k left at : ℕ} {ms : List Meeting} → Said bs n k left at [] ms → left ≤ most-meetings → length ms ≤ most-meetings
 said-few said few = rw (said .whole, said .many) few
 
 pub said-exist : {bs : List ℕ} {n k left at : ℕ} {ms : List Meeting} → Said bs n k left at [] ms → Exist n k ms
@@ -116,7 +116,7 @@ five-bytes (a ∷ b ∷ c ∷ d ∷ []) h = absurd (omega arith)
 five-bytes (a ∷ b ∷ c ∷ d ∷ e ∷ bs) h = refl
 
 -- the parts of an accepted list, put together
-whole-list : (bs : List ℕ) (n k q many : ℕ) (ms : List Meeting) → 5 ≤ length bs → getD bs 3 0 < 256 → (n ≡ getD bs 0 0) × Within n → (k ≡ getD bs 1 0) × Within k → (q ≡ getD bs 2 0) × Within q → (many ≡ getD bs 3 0 + 256 * getD bs 4 0) × (many ≤ 4000) → Said bs n k many 5 [] ms → Proper (record { groups = n; stations = k; rooms = q; meetings = ms }) × (bytes-of (record { groups = n; stations = k; rooms = q; meetings = ms }) ≡ bs)
+whole-list : (bs : List ℕ) (n k q many : ℕ) (ms : List Meeting) → 5 ≤ length bs → getD bs 3 0 < 256 → (n ≡ getD bs 0 0) × Within n → (k ≡ getD bs 1 0) × Within k → (q ≡ getD bs 2 0) × Within q → (many ≡ getD bs 3 0 + 256 * getD bs 4 0) × (many ≤ most-meetings) → Said bs n k many 5 [] ms → Proper (record { groups = n; stations = k; rooms = q; meetings = ms }) × (bytes-of (record { groups = n; stations = k; rooms = q; meetings = ms }) ≡ bs)
 whole-list bs n k q many ms long byte hn hk hq hm said =
     let all : ms ≡ said .rest = said .whole in
     let few : length ms ≡ many = rw (all, said .many) refl in

@@ -13,7 +13,7 @@ use Rattle.std.proofs.shelf.Ways.{tells}
 use Rattle.meetings.specs.declared.numbers.Meeting.{Meeting}
 use Rattle.meetings.specs.Bytes.{limit, count, party-at, meeting-at, meetings-at, read-list}
 use Rattle.meetings.specs.Faults.{said, end, many-at, Fault, short, out-of-limits, too-many, no-such-party, ends-early, goes-on, Clear, Tells-first, First-fault}
-use Rattle.meetings.specs.Lists.{Contents, meeting, Within}
+use Rattle.meetings.specs.Lists.{Contents, meeting, Within, most, most-meetings}
 use Rattle.meetings.specs.Refusals.{Outcome, accepted, refused, then}
 use Rattle.meetings.proofs.Accepted.{limit-accepted, count-accepted, party-accepted, meeting-accepted}
 
@@ -35,7 +35,7 @@ none-in-limits bs i number place (no-such-party p h l m b) e long low within = o
 none-in-limits bs i number place (ends-early l h) e long low within = omega arith
 none-in-limits bs i number place (goes-on h) e long low within = omega arith
 
-none-in-count : (bs : List ℕ) (number place : ℕ) → Fault bs number place → 3 ≤ place → place < 5 → 5 ≤ length bs → said bs ≤ 4000 → ⊥
+none-in-count : (bs : List ℕ) (number place : ℕ) → Fault bs number place → 3 ≤ place → place < 5 → 5 ≤ length bs → said bs ≤ most-meetings → ⊥
 none-in-count bs number place (short h) from to long few = omega arith
 none-in-count bs number place (out-of-limits j h l bad) from to long few = omega arith
 none-in-count bs number place (too-many l h) from to long few = omega arith
@@ -67,14 +67,14 @@ clear-short bs number place (no-such-party j h l m b) few = omega arith
 clear-short bs number place (ends-early l h) few = omega arith
 clear-short bs number place (goes-on h) few = omega arith
 
-limit-refused : (x at number place : ℕ) → limit x at ≡ refused number place → (number ≡ 2) × (place ≡ at) × ((x ≡ 0) ⊎ (120 < x))
+limit-refused : (x at number place : ℕ) → limit x at ≡ refused number place → (number ≡ 2) × (place ≡ at) × ((x ≡ 0) ⊎ (most < x))
 limit-refused x at number place e = (
   grind (arith, tells),
   grind (arith, tells),
   ⊎-elim (λ none. inl none) (λ some. inr (grind (arith, tells))) (cases-eq x 0),
 )
 
-count-refused : (low high number place : ℕ) → count low high ≡ refused number place → (number ≡ 3) × (place ≡ 3) × (4000 < low + 256 * high)
+count-refused : (low high number place : ℕ) → count low high ≡ refused number place → (number ≡ 3) × (place ≡ 3) × (most-meetings < low + 256 * high)
 count-refused low high number place e = (grind (arith, tells), grind (arith, tells), grind (arith, tells))
 
 party-refused : (bs : List ℕ) (at many number place : ℕ) → party-at bs at many ≡ refused number place → ((number ≡ 1) × (place ≡ length bs) × (length bs ≤ at)) ⊎ ((number ≡ 4) × (place ≡ at) × (at < length bs) × (many ≤ getD bs at 0))

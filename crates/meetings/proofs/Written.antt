@@ -13,14 +13,14 @@ use Rattle.std.proofs.shelf.Ways.{tells}
 use Rattle.meetings.specs.declared.numbers.Meeting.{Meeting}
 use Rattle.meetings.specs.declared.numbers.Side.the-variants.{Groups, Stations}
 use Rattle.meetings.specs.Bytes.{limit, count, party-at, meeting-at, meetings-at, read-list, bytes-of-meetings, bytes-of}
-use Rattle.meetings.specs.Lists.{Contents, Proper, Exist, Within}
+use Rattle.meetings.specs.Lists.{Contents, Proper, Exist, Within, most-meetings}
 use Rattle.meetings.specs.Refusals.{Outcome, accepted, refused, then}
 use Rattle.meetings.specs.RoundTrips.{Written-then-read}
 
 limit-written : (x at : ℕ) → Within x → limit x at ≡ accepted x
 limit-written x at h = let low = h .0 in let high = h .1 in grind (arith, tells)
 
-count-written : (m : ℕ) → m ≤ 4000 → count (m % 256) (m / 256) ≡ accepted m
+count-written : (m : ℕ) → m ≤ most-meetings → count (m % 256) (m / 256) ≡ accepted m
 count-written m h =
     let same : m % 256 + 256 * (m / 256) ≡ m = omega arith in
     rw same (grind (arith, tells))

@@ -5,16 +5,16 @@ use Prim.Native.Nat.{ℕ, zero, suc, _+_, _*_, _/_, _%_}
 use lib.Dec.{eqb, leb, ltb}
 use lib.ListN.{length, getD}
 use Rattle.meetings.specs.declared.numbers.Meeting.{Meeting}
-use Rattle.meetings.specs.Lists.{Contents, meeting}
+use Rattle.meetings.specs.Lists.{Contents, meeting, most, most-meetings}
 use Rattle.meetings.specs.Refusals.{Outcome, accepted, refused, then}
 
--- groups, stations and rooms: one byte each, 1 to 120
+-- groups, stations and rooms: one byte each, 1 to the most
 abbrev pub limit : ℕ → ℕ → Outcome ℕ
-limit x at = cond (eqb x 0 || ltb 120 x) (refused 2 at) (accepted x)
+limit x at = cond (eqb x 0 || ltb most x) (refused 2 at) (accepted x)
 
--- how many meetings: two bytes, the low one first, at most 4,000
+-- how many meetings: two bytes, the low one first, at most the most
 abbrev pub count : ℕ → ℕ → Outcome ℕ
-count low high = cond (ltb 4000 (low + 256 * high)) (refused 3 3) (accepted (low + 256 * high))
+count low high = cond (ltb most-meetings (low + 256 * high)) (refused 3 3) (accepted (low + 256 * high))
 
 -- a group or a station: a byte that is there, and names one of so many
 abbrev pub party-at : List ℕ → ℕ → ℕ → Outcome ℕ

@@ -8,6 +8,7 @@ use Prim.Native.Nat.{ℕ, _+_, _*_, _%_, _≤_, _<_}
 use lib.Dec.{eqb}
 use lib.ListN.{length, getD}
 use Rattle.meetings.specs.Bytes.{read-list}
+use Rattle.meetings.specs.Lists.{most, most-meetings}
 use Rattle.meetings.specs.Refusals.{Outcome, accepted, refused}
 
 -- how many meetings the bytes say there are, and where these end
@@ -24,8 +25,8 @@ many-at bs p = cond (eqb (p % 2) 1) (getD bs 0 0) (getD bs 1 0)
 -- a fault has a number, and a place: the byte at which it shows
 pub data Fault (bs : List ℕ) : ℕ → ℕ → Type 0 where
   short : length bs < 5 → Fault bs 1 (length bs)
-  out-of-limits : (i : ℕ) → i < 3 → 5 ≤ length bs → (getD bs i 0 ≡ 0) ⊎ (120 < getD bs i 0) → Fault bs 2 i
-  too-many : 5 ≤ length bs → 4000 < said bs → Fault bs 3 3
+  out-of-limits : (i : ℕ) → i < 3 → 5 ≤ length bs → (getD bs i 0 ≡ 0) ⊎ (most < getD bs i 0) → Fault bs 2 i
+  too-many : 5 ≤ length bs → most-meetings < said bs → Fault bs 3 3
   no-such-party : (p : ℕ) → 5 ≤ p → p < end bs → p < length bs → many-at bs p ≤ getD bs p 0 → Fault bs 4 p
   ends-early : 5 ≤ length bs → length bs < end bs → Fault bs 1 (length bs)
   goes-on : end bs < length bs → Fault bs 1 (end bs)

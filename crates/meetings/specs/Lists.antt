@@ -23,9 +23,16 @@ abbrev pub parties : Side → ℕ → ℕ → ℕ
 parties Groups n k = n
 parties Stations n k = k
 
+-- the most groups, stations and rooms, and the most meetings
+abbrev pub most : ℕ
+most = 120
+
+abbrev pub most-meetings : ℕ
+most-meetings = 4000
+
 -- a number at the head of a list
 abbrev pub Within : ℕ → Type 0
-Within x = (1 ≤ x) × (x ≤ 120)
+Within x = (1 ≤ x) × (x ≤ most)
 
 -- each meeting's group and station exist, among n groups and k stations
 abbrev pub Exist : ℕ → ℕ → List Meeting → Type 0
@@ -42,5 +49,5 @@ pub record Proper (d : Contents) : Type 0 where
   pub groups-within : Within (d .groups)
   pub stations-within : Within (d .stations)
   pub rooms-within : Within (d .rooms)
-  pub few : length (d .meetings) ≤ 4000
+  pub few : length (d .meetings) ≤ most-meetings
   pub exist : Exist (d .groups) (d .stations) (d .meetings)

@@ -1,6 +1,7 @@
 // Meetings of groups with stations: their numbers, the list of a day, its bytes, and why something is refused.
 mod held;
 mod list;
+mod memory;
 mod numbers;
 mod reading;
 mod refusal;
@@ -8,6 +9,8 @@ mod theorems;
 mod writing;
 
 pub use list::MeetingList;
+pub use memory::RefusalFromAlloc;
+pub use memory::RefusalFromRefused;
 pub use numbers::Group;
 pub use numbers::Meeting;
 pub use numbers::MeetingDebug;
@@ -22,8 +25,6 @@ pub use refusal::Limit;
 pub use refusal::Refusal;
 pub use refusal::RefusalDebug;
 pub use refusal::RefusalDisplay;
-pub use refusal::RefusalFromAlloc;
-pub use refusal::RefusalFromRefused;
 pub use refusal::RefusalPartialEq;
 pub use theorems::read_as_written;
 pub use theorems::refusals_told_apart;

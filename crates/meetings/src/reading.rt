@@ -9,12 +9,12 @@ ghost use Rattle.meetings.specs.Bytes.{limit, count, party-at, meeting-at, mee
 ghost use Rattle.meetings.specs.Held.{contents};
 ghost use Rattle.meetings.specs.Refusals.{outcome, Answers, place-of-limit};
 use crate::list::MeetingList;
+use crate::memory::RefusalFromRefused;
 use crate::numbers::Group;
 use crate::numbers::Meeting;
 use crate::numbers::Station;
 use crate::refusal::Limit;
 use crate::refusal::Refusal;
-use crate::refusal::RefusalFromRefused;
 use std::alloc::Global;
 
 // The most groups, stations and rooms, and the most meetings.

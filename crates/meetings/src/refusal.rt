@@ -2,7 +2,6 @@
 ghost use mathlib.Core.Path.{_≡_};
 ghost use Rattle.meetings.specs.Refusals.{number-of, place-of, refusal-text};
 ghost use Rattle.std.specs.declared.option.Option.the-variants.{Some};
-ghost use Rattle.meetings.specs.declared.refusal.Refusal.the-variants.{Memory};
 use crate::numbers::MeetingId;
 use crate::numbers::MeetingIdDebug;
 use crate::numbers::MeetingIdPartialEq;
@@ -12,8 +11,6 @@ use crate::numbers::RoundPartialEq;
 use crate::numbers::Side;
 use crate::numbers::SideDebug;
 use crate::numbers::SidePartialEq;
-use std::alloc::AllocError;
-use std::alloc::Refused;
 use std::fmt;
 
 // The three numbers at the head of a list, each 1 to 120.
@@ -110,22 +107,5 @@ pub impl fmt::Display for Refusal as RefusalDisplay {
         let number = self.number();
         let place = self.place();
         write!(f, "refused {number} at {place}")
-    }
-}
-
-// An allocation that fails is a refusal, so that `?` serves for both.
-pub impl From<AllocError> for Refusal as RefusalFromAlloc {
-    ghost converts = { λ _ r. r ≡ Memory };
-
-    fn from(_e: AllocError) -> Refusal {
-        Refusal::Memory
-    }
-}
-
-pub impl<T: Drop> From<Refused<T>> for Refusal as RefusalFromRefused {
-    ghost converts = { λ _ r. r ≡ Memory };
-
-    fn from(_e: Refused<T>) -> Refusal {
-        Refusal::Memory
     }
 }

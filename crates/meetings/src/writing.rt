@@ -6,8 +6,8 @@ ghost use Rattle.meetings.specs.Bytes.{read-list, bytes-of};
 ghost use Rattle.meetings.specs.Held.{contents};
 ghost use Rattle.meetings.specs.Refusals.{accepted, If-memory};
 use crate::list::MeetingList;
+use crate::memory::RefusalFromAlloc;
 use crate::refusal::Refusal;
-use crate::refusal::RefusalFromAlloc;
 use std::alloc::Global;
 
 // The bytes that say this list. Only memory can be wanting.

@@ -3,12 +3,12 @@ ghost use mathlib.Core.Path.{_≡_};
 ghost use Prim.Native.Nat.{_+_, _*_, _%_, _^_, _≤_, _<_};
 
 #[derive(Drop)]
-pub struct Random {
+pub(crate) struct Random {
     state: u64,
 }
 
 impl Random {
-    pub fn new(seed: u32) -> Random
+    pub(crate) fn new(seed: u32) -> Random
         ensures { λ r. ⌜ r .state ≡ seed ⌝ }
     {
         Random {
@@ -17,7 +17,7 @@ impl Random {
     }
 
     // A number below the limit.
-    pub fn below(&mut self, limit: u8) -> u8
+    pub(crate) fn below(&mut self, limit: u8) -> u8
         requires { ⌜ 0 < limit ⌝ }
         ensures { λ r. ⌜ r < limit ⌝ }
     {
