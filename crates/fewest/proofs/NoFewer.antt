@@ -1,24 +1,22 @@
 -- No plan has fewer rounds: each round has at most one meeting of a party, and at most as many as there are rooms; counted
 -- round by round these are all. Assumes nothing.
-use mathlib.Core.Bool.{Bool, true, false, cond, _&&_}
-use mathlib.Core.List.{List, [], _∷_, map}
-use mathlib.Core.Logic.{_⊎_, inl, inr, ⊎-elim}
-use mathlib.Core.Path.{_≡_, refl, sym, ap, _∙_}
+use mathlib.Core.Bool.{Bool, true, false, _&&_}
+use mathlib.Core.List.{List, [], _∷_}
+use mathlib.Core.Path.{_≡_, refl, sym, _∙_}
 use native.Mathlib.Nat.{suc-mul, mul-le-mul-right, div-lt-iff-lt-mul, div-add-mod', mod-lt}
 use native.Mathlib.Omega.{arith}
-use Prim.Native.Nat.{ℕ, zero, suc, max, _+_, _-_, _*_, _/_, _%_, _<_, _≤_}
+use Prim.Native.Nat.{ℕ, suc, _+_, _-_, _*_, _/_, _<_, _≤_}
 use lib.Dec.{eqb, ltb}
 use lib.ListN.{length, getD}
-use Rattle.std.specs.Iters.{counting}
 use Rattle.std.proofs.shelf.Counted.{length-map-counting, getD-map-counting}
 use Rattle.std.proofs.shelf.Tests.{and-parts, eqb-true, lt-ltb}
 use Rattle.meetings.specs.declared.numbers.Meeting.{Meeting}
 use Rattle.meetings.specs.declared.numbers.Side.{Side}
 use Rattle.meetings.specs.declared.numbers.Side.the-variants.{Groups, Stations}
 use Rattle.meetings.specs.Lists.{Contents, parties, party, nobody}
-use Rattle.fewest.specs.Counting.{total, count}
+use Rattle.fewest.specs.Counting.{count}
 use Rattle.fewest.specs.Plans.{none, Plan, Rooms, in-round}
-use Rattle.fewest.specs.Rounds.{meetings-of, numbers, largest, busiest, rounds-by-rooms, fewest}
+use Rattle.fewest.specs.Rounds.{meetings-of, numbers, largest, fewest}
 use Rattle.fewest.specs.Statements.{Suffices, Least, Least-of-plans, Fewest-least, No-fewer}
 use Rattle.fewest.proofs.Counting.{total-at-most, count-ext, count-all, count-one, count-places, by-rounds}
 

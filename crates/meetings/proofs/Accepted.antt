@@ -1,23 +1,21 @@
 -- What is accepted is proper, and is written as it stood: each part of the rule accepts only the bytes that its value is
 -- written by. Assumes nothing.
-use mathlib.Core.Bool.{cond, _||_}
 use mathlib.Core.List.{List, [], _∷_, _++_, append-nil, append-assoc}
 use mathlib.Core.Path.{_≡_, refl, sym, ap, _∙_}
 use native.Mathlib.Omega.{arith}
 use Prim.Native.Nat.{ℕ, zero, suc, _+_, _*_, _-_, _/_, _%_, _<_, _≤_}
-use lib.Dec.{eqb, leb, ltb}
+use lib.Dec.{ltb}
 use lib.ListN.{length, getD, drop}
 use Rattle.std.proofs.shelf.Lists.{drop-all, drop-more}
 use Rattle.std.proofs.shelf.Tests.{ltb-false}
 use Rattle.std.proofs.shelf.Ways.{tells}
 use Rattle.meetings.proofs.Outcomes.{then-accepted, unless-refused}
 use Rattle.meetings.specs.declared.numbers.Meeting.{Meeting}
-use Rattle.meetings.specs.declared.numbers.Side.{Side}
 use Rattle.meetings.specs.declared.numbers.Side.the-variants.{Groups, Stations}
-use Rattle.meetings.specs.Bytes.{limit, count, party-at, meeting-at, meetings-at, read-list, bytes-of-meetings, bytes-of}
-use Rattle.meetings.specs.Lists.{Contents, Proper, Exist, Within, meeting, nobody, party, parties, most-meetings}
-use Rattle.meetings.specs.Refusals.{Outcome, accepted, refused, then}
-use Rattle.meetings.specs.RoundTrips.{Bytes, Read-then-written}
+use Rattle.meetings.specs.Bytes.{limit, count, party-at, meeting-at, meetings-at, bytes-of-meetings, bytes-of}
+use Rattle.meetings.specs.Lists.{Proper, Exist, Within, meeting, most-meetings}
+use Rattle.meetings.specs.Refusals.{accepted, then}
+use Rattle.meetings.specs.RoundTrips.{Read-then-written}
 
 pub limit-accepted : (x at y : ℕ) → limit x at ≡ accepted y → (y ≡ x) × Within y
 limit-accepted x at y e = (grind (arith, tells), (grind (arith, tells), grind (arith, tells)))

@@ -1,13 +1,11 @@
 -- A number and a place tell which refusal it is: the refusal is a function of the two. Assumes nothing.
 use mathlib.Core.Bool.{cond}
-use mathlib.Core.Path.{_≡_, refl, sym, ap, _∙_}
+use mathlib.Core.Path.{_≡_, refl, sym, _∙_}
 use native.Mathlib.Omega.{arith}
-use Prim.Native.Nat.{ℕ, _+_, _-_, _≤_, _<_}
+use Prim.Native.Nat.{ℕ, _+_, _-_, _≤_}
 use lib.Dec.{eqb, ltb}
 use Rattle.std.proofs.shelf.Tests.{lt-ltb, le-ltb}
-use Rattle.meetings.specs.declared.numbers.MeetingId.{MeetingId}
 use Rattle.meetings.specs.declared.numbers.Side as side
-use Rattle.meetings.specs.declared.numbers.Side.{Side}
 use Rattle.meetings.specs.declared.refusal.Limit as limit
 use Rattle.meetings.specs.declared.refusal.Limit.{Limit}
 use Rattle.meetings.specs.declared.refusal.Lent.{Lent}

@@ -1,19 +1,17 @@
 -- A refusal tells the first fault: the rule goes over the bytes in their order, and no fault shows before the place that it
 -- has come to. Assumes nothing.
-use mathlib.Core.Bool.{Bool, true, false, cond, _||_}
 use mathlib.Core.List.{List, [], _∷_, _++_}
 use mathlib.Core.Logic.{_⊎_, inl, inr, ⊎-elim}
-use mathlib.Core.Path.{_≡_, refl, sym, ap, subst, _∙_}
+use mathlib.Core.Path.{_≡_, refl, ap}
 use native.Mathlib.Omega.{arith}
 use Prim.Native.Nat.{ℕ, zero, suc, _+_, _*_, _%_, _≤_, _<_}
-use lib.Dec.{eqb, leb, ltb}
 use lib.ListN.{length, getD}
 use Rattle.std.proofs.shelf.Tests.{cases-eq, cases-lt, lt-ltb, le-ltb}
 use Rattle.std.proofs.shelf.Ways.{tells}
 use Rattle.meetings.specs.declared.numbers.Meeting.{Meeting}
-use Rattle.meetings.specs.Bytes.{limit, count, party-at, meeting-at, meetings-at, read-list}
+use Rattle.meetings.specs.Bytes.{limit, count, party-at, meeting-at, meetings-at}
 use Rattle.meetings.specs.Faults.{said, end, many-at, Fault, short, out-of-limits, too-many, no-such-party, ends-early, goes-on, Clear, Tells-first, First-fault}
-use Rattle.meetings.specs.Lists.{Contents, meeting, Within, most, most-meetings}
+use Rattle.meetings.specs.Lists.{meeting, Within, most, most-meetings}
 use Rattle.meetings.specs.Refusals.{Outcome, accepted, refused, then}
 use Rattle.meetings.proofs.Accepted.{limit-accepted, count-accepted, party-accepted, meeting-accepted}
 

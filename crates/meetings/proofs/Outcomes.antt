@@ -1,6 +1,6 @@
 -- What an answer says, and what a rule accepts that goes on from another. Assumes nothing.
 use mathlib.Core.Bool.{Bool, true, false, cond}
-use mathlib.Core.Logic.{inl, inr, ⊎-elim}
+use mathlib.Core.Logic.{⊎-elim}
 use mathlib.Core.Path.{_≡_, refl, sym}
 use native.Mathlib.Omega.{arith}
 use Prim.Native.Nat.{ℕ}
@@ -9,7 +9,7 @@ use Rattle.std.specs.declared.result.Result.the-variants.{Ok, Err}
 use Rattle.std.specs.Vec.{made}
 use Rattle.meetings.specs.declared.refusal.Refusal.{Refusal}
 use Rattle.meetings.specs.declared.refusal.Refusal.the-variants.{Memory}
-use Rattle.meetings.specs.Refusals.{Outcome, accepted, refused, then, outcome, Answers, If-memory}
+use Rattle.meetings.specs.Refusals.{Outcome, accepted, refused, then, Answers, If-memory}
 
 -- a value that is answered is what the rule says
 pub accepted-from-ok : {X T : Type 0} (means : X → T) (x : X) {o : Outcome T} → Answers means (Ok x) o → o ≡ accepted (means x)

@@ -1,20 +1,18 @@
 -- What is proper is accepted as it was written: each part of the rule accepts the bytes that its value is written by.
 -- Assumes nothing.
-use mathlib.Core.Bool.{cond, _||_}
 use mathlib.Core.List.{List, [], _∷_, _++_, append-nil, append-assoc}
 use mathlib.Core.Path.{_≡_, refl, sym, ap, _∙_}
 use native.Mathlib.Omega.{arith}
-use Prim.Native.Nat.{ℕ, zero, suc, _+_, _*_, _-_, _/_, _%_, _<_, _≤_}
-use lib.Dec.{eqb, leb, ltb}
+use Prim.Native.Nat.{ℕ, suc, _+_, _*_, _-_, _/_, _%_, _<_, _≤_}
 use lib.ListN.{length, getD, drop}
 use Rattle.std.proofs.shelf.Lists.{length-drop, getD-drop, drop-drop}
 use Rattle.std.proofs.shelf.Tests.{le-ltb}
 use Rattle.std.proofs.shelf.Ways.{tells}
 use Rattle.meetings.specs.declared.numbers.Meeting.{Meeting}
 use Rattle.meetings.specs.declared.numbers.Side.the-variants.{Groups, Stations}
-use Rattle.meetings.specs.Bytes.{limit, count, party-at, meeting-at, meetings-at, read-list, bytes-of-meetings, bytes-of}
-use Rattle.meetings.specs.Lists.{Contents, Proper, Exist, Within, most-meetings}
-use Rattle.meetings.specs.Refusals.{Outcome, accepted, refused, then}
+use Rattle.meetings.specs.Bytes.{limit, count, party-at, meetings-at, read-list, bytes-of-meetings, bytes-of}
+use Rattle.meetings.specs.Lists.{Exist, Within, most-meetings}
+use Rattle.meetings.specs.Refusals.{accepted}
 use Rattle.meetings.specs.RoundTrips.{Written-then-read}
 
 limit-written : (x at : ℕ) → Within x → limit x at ≡ accepted x

@@ -1,6 +1,6 @@
 // Numbers that look random, the same in every run: a linear congruential generator.
 ghost use mathlib.Core.Path.{_≡_};
-ghost use Prim.Native.Nat.{_+_, _*_, _%_, _^_, _≤_, _<_};
+ghost use Prim.Native.Nat.{_<_};
 
 #[derive(Drop)]
 pub(crate) struct Random {

@@ -1,5 +1,4 @@
 -- What the number is was answered; the theorems on it say the rest.
-use Rattle.std.specs.Vec.{made}
 use Rattle.meetings.specs.Held.{contents}
 use Rattle.meetings.proofs.Holds.{proper}
 use Rattle.meetings.proofs.Outcomes.{made-if-memory}

@@ -1,6 +1,4 @@
-use borrow.Author.Needs.{needs}
 use mathlib.Core.Logic.{inr}
-use native.Mathlib.Omega.{arith}
 use Rattle.std.proofs.shelf.Results.{err-from-errBy}
 use Rattle.meetings.proofs.Turns.{read-one, refused-one}
 use Rattle.meetings.proofs.reading.meetings.Needs as need
