@@ -5,10 +5,10 @@ ghost use Prim.Native.Nat.{_+_, _^_, _≤_, _<_, max};
 ghost use lib.ListN.{length, getD, set, replicate};
 ghost use Rattle.std.specs.Of.Vec.{vec-items};
 ghost use Rattle.meetings.specs.Held.{contents};
-ghost use Rattle.meetings.specs.Lists.{Exist, most-meetings};
+ghost use Rattle.meetings.specs.Lists.{Contents, Exist, most-meetings};
 ghost use Rattle.meetings.specs.declared.numbers.Side.the-variants.{Groups, Stations};
 ghost use Rattle.meetings.specs.Refusals.{If-memory};
-ghost use Rattle.fewest.specs.Rounds.{largest};
+ghost use Rattle.fewest.specs.Rounds.{busiest, largest};
 ghost use Rattle.fewest.specs.Tallies.{Counts, Tallied};
 use meetings::Meeting;
 use meetings::MeetingList;
@@ -76,9 +76,24 @@ impl Tally {
         Ok(Tally { groups, stations })
     }
 
+    // How many meetings each group has, by its number.
+    pub fn groups(&self) -> &[u16]
+        ensures { λ r. ⌜ now r ≡ vec-items (now (self .entry) .groups) ⌝ }
+    {
+        self.groups.as_slice()
+    }
+
+    // How many meetings each station has, by its number.
+    pub fn stations(&self) -> &[u16]
+        ensures { λ r. ⌜ now r ≡ vec-items (now (self .entry) .stations) ⌝ }
+    {
+        self.stations.as_slice()
+    }
+
     // The most meetings that a group or a station has.
     pub fn busiest(&self) -> u16
-        ensures { λ r. ⌜ r ≡ max (largest (vec-items (now (self .entry) .groups))) (largest (vec-items (now (self .entry) .stations))) ⌝ }
+        ensures of_list { λ r. ⌜ ((d : Contents) → Counts d (now (self .entry)) → r ≡ busiest d) ⌝ }
+        ensures value { λ r. ⌜ r ≡ max (largest (vec-items (now (self .entry) .groups))) (largest (vec-items (now (self .entry) .stations))) ⌝ }
     {
         largest_of(&self.groups).max(largest_of(&self.stations))
     }

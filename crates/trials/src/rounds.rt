@@ -56,6 +56,16 @@ fn worked_days(rt: LibcRuntime) -> Result<(), Fail> {
     Ok(())
 }
 
+#[test]
+fn each_party_is_counted(rt: LibcRuntime) -> Result<(), Fail> {
+    let bytes = bytes_of(rt.alloc(), 3, 4, 2, &[(0, 0), (2, 1), (0, 0), (0, 3)])?;
+    let list = read(rt.alloc(), &bytes)?;
+    let tally = Tally::of(rt.alloc(), &list)?;
+    check_eq(tally.groups(), &[3, 0, 1])?;
+    check_eq(tally.stations(), &[2, 1, 0, 1])?;
+    check_eq(tally.busiest(), 3)
+}
+
 // Each of five groups with each of five stations: 25 meetings fill 5 rounds of 5 rooms, and need 7 of 4.
 #[test]
 fn five_by_five(rt: LibcRuntime) -> Result<(), Fail> {
