@@ -2,13 +2,14 @@
 -- round by round these are all. Assumes nothing.
 use mathlib.Core.Bool.{Bool, true, false, _&&_}
 use mathlib.Core.List.{List, [], _∷_}
-use mathlib.Core.Path.{_≡_, refl, sym, _∙_}
-use native.Mathlib.Nat.{suc-mul, mul-le-mul-right, div-lt-iff-lt-mul, div-add-mod', mod-lt}
+use mathlib.Core.Path.{_≡_, refl, sym, ap, _∙_}
+use native.Mathlib.Nat.{zero-mul, suc-mul, mul-le-mul-right, div-lt-iff-lt-mul, div-add-mod', mod-lt}
 use native.Mathlib.Omega.{arith}
 use Prim.Native.Nat.{ℕ, suc, _+_, _-_, _*_, _/_, _<_, _≤_}
 use lib.Dec.{eqb, ltb}
 use lib.ListN.{length, getD}
 use Rattle.std.proofs.shelf.Counted.{length-map-counting, getD-map-counting}
+use Rattle.std.proofs.shelf.Sums.{countBy-le-length}
 use Rattle.std.proofs.shelf.Tests.{and-parts, eqb-true, lt-ltb}
 use Rattle.meetings.specs.declared.numbers.Meeting.{Meeting}
 use Rattle.meetings.specs.declared.numbers.Side.{Side}
@@ -17,7 +18,7 @@ use Rattle.meetings.specs.Lists.{Contents, parties, party, nobody}
 use Rattle.fewest.specs.Counting.{count}
 use Rattle.fewest.specs.Plans.{none, Plan, Rooms, in-round}
 use Rattle.fewest.specs.Rounds.{meetings-of, numbers, largest, fewest}
-use Rattle.fewest.specs.Statements.{Suffices, Least, Least-of-plans, Fewest-least, No-fewer}
+use Rattle.fewest.specs.Statements.{Suffices, Least, Least-of-plans, Fewest-least, None-without-meetings, No-fewer}
 use Rattle.fewest.proofs.Counting.{total-at-most, count-ext, count-all, count-one, count-places, by-rounds}
 
 -- a sum over rounds bounds what is counted, where every meeting has a round
@@ -94,6 +95,21 @@ fewest-suffices d some = (omega arith, rooms-enough (length (d .meetings)) (d .r
 
 pub fewest-least : Fewest-least
 fewest-least d some = (fewest-suffices d some, λ r. least d r some)
+
+-- without meetings no rounds suffice
+none-suffice : (d : Contents) → length (d .meetings) ≡ 0 → Suffices d 0
+none-suffice d none =
+    let each = λ (s : Side). numbers-within s d 0 (λ p. omega (arith, countBy-le-length (λ m. eqb (party s m) p) (d .meetings))) in
+    (omega (arith, each Groups, each Stations), omega arith)
+
+pub none-without-meetings : None-without-meetings
+none-without-meetings d some = (
+  λ e. let enough = fewest-suffices d some .1 in rooms-of-none (fewest d) (d .rooms) e enough,
+  λ none. omega (arith, least d 0 some (none-suffice d none)),
+)
+  where
+    rooms-of-none : (r q : ℕ) {m : ℕ} → r ≡ 0 → m ≤ r * q → m ≡ 0
+    rooms-of-none r q e h = let none : r * q ≡ 0 = ap (λ x. x * q) e ∙ zero-mul q in omega arith
 
 pub no-fewer : No-fewer
 no-fewer d r xs some plan rooms = let enough = suffices d r xs plan rooms in (enough, least d r some enough)

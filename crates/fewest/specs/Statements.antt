@@ -27,6 +27,12 @@ Least d r = Suffices d r × ((s : ℕ) → Suffices d s → r ≤ s)
 abbrev pub Fewest-least : Type 0
 Fewest-least = (d : Contents) → 1 ≤ d .rooms → Least d (fewest d)
 
+-- there are no rounds exactly where there are no meetings
+abbrev pub None-without-meetings : Type 0
+None-without-meetings =
+    (d : Contents) → 1 ≤ d .rooms →
+    (fewest d ≡ 0 → length (d .meetings) ≡ 0) × (length (d .meetings) ≡ 0 → fewest d ≡ 0)
+
 -- NO PLAN HAS FEWER: whoever made it, a plan within the rooms has so many rounds
 abbrev pub Least-of-plans : Contents → ℕ → Type 0
 Least-of-plans d r = (s : ℕ) (xs : List ℕ) → Plan s (d .meetings) xs → Rooms (d .rooms) s xs → r ≤ s

@@ -10,3 +10,4 @@ pub use theorems::counted_by_rounds;
 pub use theorems::days_are_right;
 pub use theorems::fewest_is_least;
 pub use theorems::no_plan_has_fewer;
+pub use theorems::no_rounds_without_meetings;

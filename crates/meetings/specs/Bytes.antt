@@ -8,11 +8,11 @@ use Rattle.meetings.specs.declared.numbers.Meeting.{Meeting}
 use Rattle.meetings.specs.Lists.{Contents, meeting, most, most-meetings}
 use Rattle.meetings.specs.Refusals.{Outcome, accepted, refused, then}
 
--- groups, stations and rooms: one byte each, 1 to the most
+-- groups, stations and rooms: one byte each, from 1 to the most
 abbrev pub limit : ℕ → ℕ → Outcome ℕ
 limit x at = cond (eqb x 0 || ltb most x) (refused 2 at) (accepted x)
 
--- how many meetings: two bytes, the low one first, at most the most
+-- how many meetings: two bytes, the low one first, up to the most
 abbrev pub count : ℕ → ℕ → Outcome ℕ
 count low high = cond (ltb most-meetings (low + 256 * high)) (refused 3 3) (accepted (low + 256 * high))
 
