@@ -49,7 +49,7 @@ fn has_plan(meetings: &[(u8, u8)], rooms: u8, rounds: u32) -> bool {
     false
 }
 
-// The least number of rounds for which there is a plan, up to the number of meetings.
+// The least number of rounds, below ten, for which there is a plan.
 pub(crate) fn searched(meetings: &[(u8, u8)], rooms: u8) -> Option<u32> {
     for rounds in 0..10u32 {
         if has_plan(meetings, rooms, rounds) {
