@@ -5,13 +5,13 @@ use mathlib.Core.Path.{_≡_, refl, sym, _∙_}
 use native.Mathlib.Omega.{arith}
 use Prim.Native.Nat.{ℕ, zero, suc, _<_, _≤_}
 use lib.ListN.{length, getD}
-use Rattle.std.proofs.shelf.Counted.{length-map-counting, getD-map-counting}
 use Rattle.std.proofs.shelf.Tests.{cases-lt}
 use Rattle.meetings.specs.declared.numbers.Side.{Side}
 use Rattle.meetings.specs.declared.numbers.Side.the-variants.{Groups, Stations}
 use Rattle.meetings.specs.Lists.{Contents, parties}
 use Rattle.fewest.specs.Rounds.{meetings-of, numbers, largest, busiest}
 use Rattle.fewest.specs.Statements.{Busiest}
+use Rattle.fewest.proofs.Numbers.{numbers-long, number-at}
 
 largest-above : (xs : List ℕ) (i : ℕ) → i < length xs → getD xs i 0 ≤ largest xs
 largest-above [] i h = absurd (omega arith)
@@ -31,19 +31,13 @@ largest-stands (x ∷ xs) = ⊎-elim (λ less. behind less (largest-stands xs)) 
     behind less (inr some) = inr (suc (some .0), omega (arith, some .1), omega (arith, some .2))
 
 module _ (s : Side) (d : Contents) where
-  number-at : (p : ℕ) → p < parties s (d .groups) (d .stations) → getD (numbers s d) p 0 ≡ meetings-of s p (d .meetings)
-  number-at p h = getD-map-counting (λ p. meetings-of s p (d .meetings)) 0 (parties s (d .groups) (d .stations)) p p 0 h (omega arith)
-
-  long : length (numbers s d) ≡ parties s (d .groups) (d .stations)
-  long = length-map-counting (λ p. meetings-of s p (d .meetings)) 0 (parties s (d .groups) (d .stations))
-
   below : (p : ℕ) → p < parties s (d .groups) (d .stations) → meetings-of s p (d .meetings) ≤ largest (numbers s d)
-  below p h = omega (arith, number-at p h, largest-above (numbers s d) p (omega (arith, long)))
+  below p h = omega (arith, number-at s d p h, largest-above (numbers s d) p (omega (arith, numbers-long s d)))
 
   attained : (b : ℕ) → b ≡ largest (numbers s d) → (b ≡ 0) ⊎ ((s : Side) × (p : ℕ) × (p < parties s (d .groups) (d .stations)) × (meetings-of s p (d .meetings) ≡ b))
   attained b e =
       ⊎-elim (λ none. inl (e ∙ none))
-      (λ some. let here : some .0 < parties s (d .groups) (d .stations) = omega (arith, long, some .1) in inr (s, some .0, here, sym (number-at (some .0) here) ∙ some .2 ∙ sym e))
+      (λ some. let here : some .0 < parties s (d .groups) (d .stations) = omega (arith, numbers-long s d, some .1) in inr (s, some .0, here, sym (number-at s d (some .0) here) ∙ some .2 ∙ sym e))
       (largest-stands (numbers s d))
 
 pub busiest-is : Busiest

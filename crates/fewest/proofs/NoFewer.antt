@@ -8,17 +8,17 @@ use native.Mathlib.Omega.{arith}
 use Prim.Native.Nat.{ℕ, suc, _+_, _-_, _*_, _/_, _<_, _≤_}
 use lib.Dec.{eqb, ltb}
 use lib.ListN.{length, getD}
-use Rattle.std.proofs.shelf.Counted.{length-map-counting, getD-map-counting}
 use Rattle.std.proofs.shelf.Sums.{countBy-le-length}
 use Rattle.std.proofs.shelf.Tests.{and-parts, eqb-true, lt-ltb}
 use Rattle.meetings.specs.declared.numbers.Meeting.{Meeting}
 use Rattle.meetings.specs.declared.numbers.Side.{Side}
 use Rattle.meetings.specs.declared.numbers.Side.the-variants.{Groups, Stations}
-use Rattle.meetings.specs.Lists.{Contents, parties, party, nobody}
+use Rattle.meetings.specs.Lists.{Contents, party, nobody}
 use Rattle.fewest.specs.Counting.{count}
 use Rattle.fewest.specs.Plans.{none, Plan, Rooms, in-round}
 use Rattle.fewest.specs.Rounds.{meetings-of, numbers, largest, fewest}
 use Rattle.fewest.specs.Statements.{Suffices, Least, Least-of-plans, Fewest-least, None-without-meetings, No-fewer}
+use Rattle.fewest.proofs.Numbers.{numbers-long, number-at}
 use Rattle.fewest.proofs.Counting.{total-at-most, count-ext, count-all, count-one, count-places, by-rounds}
 
 -- a sum over rounds bounds what is counted, where every meeting has a round
@@ -63,9 +63,8 @@ largest-within r (x ∷ xs) h =
 
 numbers-within : (s : Side) (d : Contents) (r : ℕ) → ((p : ℕ) → meetings-of s p (d .meetings) ≤ r) → largest (numbers s d) ≤ r
 numbers-within s d r each =
-    let f = λ (p : ℕ). meetings-of s p (d .meetings) in
-    let n = parties s (d .groups) (d .stations) in
-    largest-within r (numbers s d) (λ i h. let below : i < n = omega (arith, length-map-counting f 0 n) in let here : 0 + i ≡ i = omega arith in omega (arith, getD-map-counting f 0 n i i 0 below here, each i))
+    let long = numbers-long s d in
+    largest-within r (numbers s d) (λ i h. omega (arith, number-at s d i (omega arith), each i))
 
 -- meetings divided by rooms, rounded up, is the least number of rounds with rooms enough
 rooms-within : (m q r : ℕ) → 1 ≤ q → m ≤ r * q → (m + (q - 1)) / q ≤ r

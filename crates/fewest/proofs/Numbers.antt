@@ -7,14 +7,14 @@ use Prim.Native.Nat.{ℕ, max, _+_, _^_, _<_, _≤_}
 use lib.Dec.{eqb}
 use lib.ListN.{length, getD, set, take, drop, replicate}
 use Rattle.std.specs.Iters.{counting}
-use Rattle.std.proofs.shelf.Counted.{fill-by-all}
+use Rattle.std.proofs.shelf.Counted.{fill-by-all, length-map-counting, getD-map-counting}
 use Rattle.std.proofs.shelf.Lists.{drop-all, drop-more, length-take, getD-set-same, getD-set-other, length-set, take-all, getD-replicate, length-replicate}
 use Rattle.std.proofs.shelf.Sums.{countBy-le-length, countBy-more-yes, countBy-more-no}
 use Rattle.std.proofs.shelf.Tests.{cases-eq, eq-eqb, ne-eqb}
 use Rattle.meetings.specs.declared.numbers.Meeting.{Meeting}
 use Rattle.meetings.specs.declared.numbers.Side.{Side}
-use Rattle.meetings.specs.Lists.{party, nobody, most-meetings}
-use Rattle.fewest.specs.Rounds.{largest, meetings-of}
+use Rattle.meetings.specs.Lists.{Contents, parties, party, nobody, most-meetings}
+use Rattle.fewest.specs.Rounds.{largest, numbers, meetings-of}
 use Rattle.fewest.specs.Tallies.{Tallied}
 
 one-more-here : (xs : List ℕ) (x p : ℕ) → x < length xs → x ≡ p → getD (set xs x (getD xs x 0 + 1)) p 0 ≡ getD xs p 0 + 1
@@ -54,3 +54,13 @@ tally-none s n xs e p h =
 -- after the last
 pub tally-is : (s : Side) (ms : List Meeting) (n : ℕ) (xs : List ℕ) → length xs ≡ n → Tallied s ms xs → xs ≡ map (λ p. meetings-of s p ms) (counting 0 n)
 tally-is s ms n xs long all = fill-by-all (λ p. meetings-of s p ms) xs n 0 long (λ p h. all p (omega arith))
+
+-- the numbers of a side, entry by entry
+module _ (s : Side) (d : Contents) where
+  pub numbers-long : length (numbers s d) ≡ parties s (d .groups) (d .stations)
+  numbers-long = length-map-counting (λ p. meetings-of s p (d .meetings)) 0 (parties s (d .groups) (d .stations))
+
+  pub number-at : (p : ℕ) → p < parties s (d .groups) (d .stations) → getD (numbers s d) p 0 ≡ meetings-of s p (d .meetings)
+  number-at p h =
+      let here : 0 + p ≡ p = omega arith in
+      getD-map-counting (λ p. meetings-of s p (d .meetings)) 0 (parties s (d .groups) (d .stations)) p p 0 h here

@@ -30,6 +30,7 @@ Named bs at many p = (at < length bs) × (p ≡ getD bs at 0) × (p < many)
 pub party-accepted : (bs : List ℕ) (at many y : ℕ) → party-at bs at many ≡ accepted y → Named bs at many y
 party-accepted bs at many y e = (grind (arith, tells), grind (arith, tells), grind (arith, tells))
 
+-- a meeting that is accepted: its group and its station
 pub record Met (bs : List ℕ) (at n k : ℕ) (m : Meeting) : Type 0 where
   pub g : ℕ
   pub s : ℕ

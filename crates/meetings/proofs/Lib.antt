@@ -1,7 +1,7 @@
 pub mod Accepted
-pub mod Apart
 pub mod FirstFault
 pub mod Holds
 pub mod Outcomes
+pub mod ToldApart
 pub mod Turns
 pub mod Written

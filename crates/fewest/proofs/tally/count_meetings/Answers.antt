@@ -1,3 +1,4 @@
+-- Each turn counts one meeting for its group and one for its station, both of which have an entry with room.
 use native.Mathlib.Omega.{arith}
 use Prim.Native.Nat.{_<_}
 use lib.ListN.{length, getD}

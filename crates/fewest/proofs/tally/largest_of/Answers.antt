@@ -1,3 +1,4 @@
+-- The largest so far, with the largest of what is left, is the largest of all.
 use Rattle.fewest.proofs.Numbers.{best-more, best-all}
 use Rattle.fewest.proofs.tally.largest_of.Needs as need
 

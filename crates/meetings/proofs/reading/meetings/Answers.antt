@@ -1,3 +1,4 @@
+-- Each turn reads one meeting, and the rule at what is left gives the whole.
 use mathlib.Core.Logic.{inr}
 use Rattle.std.proofs.shelf.Results.{err-from-errBy}
 use Rattle.meetings.proofs.Turns.{read-one, refused-one}

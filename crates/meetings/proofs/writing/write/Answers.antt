@@ -1,3 +1,4 @@
+-- Each turn writes one meeting, whose numbers fit a byte since the list is proper.
 use mathlib.Core.Path.{ap, _∙_}
 use Rattle.std.specs.Of.Vec.{vec-items}
 use Rattle.meetings.specs.declared.numbers.Side.the-variants.{Groups, Stations}

@@ -1,3 +1,4 @@
+-- The entries start at 0, one for each party of a proper list, and are tallied after the pass.
 use mathlib.Core.Path.{_∙_, ap}
 use lib.ListN.{length, length-replicate}
 use Rattle.meetings.specs.declared.numbers.Side.the-variants.{Groups, Stations}
