@@ -1,4 +1,6 @@
 // Chains of two rounds: the board, the part of a meeting, and exchanging its rounds.
+#![tactic(auto)]
+
 mod board;
 mod exchanging;
 mod following;

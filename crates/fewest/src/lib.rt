@@ -1,4 +1,6 @@
 // The fewest rounds: how often each group and station meets, the busiest, and the number of rounds.
+#![tactic(auto)]
+
 mod rounds;
 mod tally;
 mod theorems;

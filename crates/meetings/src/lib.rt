@@ -1,4 +1,6 @@
 // Meetings of groups with stations: their numbers, the list of a day, its bytes, and why something is refused.
+#![tactic(auto)]
+
 mod held;
 mod list;
 mod memory;

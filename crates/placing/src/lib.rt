@@ -1,4 +1,6 @@
 // Putting meetings in: the lowest common free round, else a chain.
+#![tactic(auto)]
+
 mod all;
 mod free;
 mod planned;

@@ -1,4 +1,6 @@
 // plan DAY: reads a day's list of meetings and prints the fewest rounds in which they can be held.
+#![tactic(auto)]
+
 ghost use Rattle.meetings.specs.Bytes.{read_list};
 ghost use Rattle.meetings.specs.Refusals.{accepted, then, Answers};
 ghost use Rattle.fewest.specs.Rounds.{fewest};

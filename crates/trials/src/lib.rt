@@ -1,5 +1,7 @@
 // Tests of the libraries: examples at each limit, and random lists beside a search over all plans. What other tests need is
 // public.
+#![tactic(auto)]
+
 #[cfg(test)]
 mod bytes;
 mod lists;

@@ -1,4 +1,6 @@
 // Tests of placing: worked lists, refusals, the largest lists, and random lists beside the rule written once more.
+#![tactic(auto)]
+
 #[cfg(test)]
 mod checks;
 #[cfg(test)]

@@ -9,7 +9,7 @@ pub returns : goal.returns
 returns c =
     let d = contents c.args.list.now in
     let some = (proper c.args.list.now).rooms_within.0 in
-    let said = c.number-of-rounds.ensures in
+    let said = c.number_of_rounds.ensures in
     record {
       answer = said;
       least = made_if_memory _ said (λ x e. least_said d x some e);

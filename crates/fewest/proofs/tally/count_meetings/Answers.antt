@@ -5,8 +5,8 @@ use Rattle.meetings.specs.Lists.{party, nobody}
 use Rattle.fewest.proofs.Numbers.{tally_fits, tally_more, tally_all}
 use Rattle.fewest.proofs.tally.count_meetings.Goals as goal
 
-pub count-one-requires : goal.count-one-requires
-count-one-requires c =
+pub count_one-requires : goal.count_one-requires
+count_one-requires c =
     let ms = c.args.meetings.now in
     let within : party Groups (get_or ms c.loop-meeting.meeting-index nobody) < length c.loop-meeting.groups = omega (arith, c.requires.exist Groups c.loop-meeting.meeting-index c.loop-meeting-test.true, c.loop-meeting.auto.groups) in
     record {
@@ -14,8 +14,8 @@ count-one-requires c =
       room = tally_fits Groups ms _ c.loop-meeting.groups c.loop-meeting-test.true c.loop-meeting.invariant.0 _ within c.requires.few;
     }
 
-pub count-one-requires-in-loop-meeting : goal.count-one-requires-in-loop-meeting
-count-one-requires-in-loop-meeting c =
+pub count_one-requires-in-loop-meeting : goal.count_one-requires-in-loop-meeting
+count_one-requires-in-loop-meeting c =
     let ms = c.args.meetings.now in
     let within : party Stations (get_or ms c.loop-meeting.meeting-index nobody) < length c.loop-meeting.stations = omega (arith, c.requires.exist Stations c.loop-meeting.meeting-index c.loop-meeting-test.true, c.loop-meeting.auto.stations) in
     record {
@@ -28,8 +28,8 @@ loop-meeting-preserved c =
     let ms = c.args.meetings.now in
     let i = c.loop-meeting.meeting-index in
     let here = c.loop-meeting-test.true in (
-      tally_more Groups ms i c.loop-meeting.groups here c.loop-meeting.invariant.0 _ (omega (arith, c.requires.exist Groups i here, c.loop-meeting.auto.groups)) c.count-one.ensures,
-      tally_more Stations ms i c.loop-meeting.stations here c.loop-meeting.invariant.1 _ (omega (arith, c.requires.exist Stations i here, c.loop-meeting.auto.stations)) c.count-one-in-loop-meeting.ensures,
+      tally_more Groups ms i c.loop-meeting.groups here c.loop-meeting.invariant.0 _ (omega (arith, c.requires.exist Groups i here, c.loop-meeting.auto.groups)) c.count_one.ensures,
+      tally_more Stations ms i c.loop-meeting.stations here c.loop-meeting.invariant.1 _ (omega (arith, c.requires.exist Stations i here, c.loop-meeting.auto.stations)) c.count_one-in-loop-meeting.ensures,
     )
 
 pub returns : goal.returns

@@ -4,12 +4,12 @@ use Rattle.std.proofs.lemmas.Result.{err_from_is_err_and}
 use Rattle.meetings.proofs.Turns.{read_one, refused_one}
 use Rattle.meetings.proofs.reading.meetings.Goals as goal
 
-pub returns-in-err-next : goal.returns-in-err-next
-returns-in-err-next c =
-    let p = err_from_is_err_and c.from-residual.result c.from-residual.ensures.1 in
-    rw (p.1, p.2) (inr (refused_one _ _ _ _ _ _ c.loop-i-test.true c.loop-i.invariant c.in-err-next.ensures))
+pub returns-in_err-next : goal.returns-in_err-next
+returns-in_err-next c =
+    let p = err_from_is_err_and c.from_residual.result c.from_residual.ensures.1 in
+    rw (p.1, p.2) (inr (refused_one _ _ _ _ _ _ c.loop-i-test.true c.loop-i.invariant c.in_err-next.ensures))
 
 pub loop-i-preserved : goal.loop-i-preserved
 loop-i-preserved c =
-    read_one _ _ _ _ _ _ c.loop-i-test.true c.loop-i.invariant _ c.in-ok-next.ensures
-    c.in-ok-push.ensures.items
+    read_one _ _ _ _ _ _ c.loop-i-test.true c.loop-i.invariant _ c.in_ok-next.ensures
+    c.in_ok-push.ensures.items

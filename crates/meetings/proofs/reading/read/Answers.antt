@@ -5,18 +5,18 @@ use Rattle.meetings.proofs.Outcomes.{accepted_from_ok}
 use Rattle.meetings.proofs.Written.{accepted_parts}
 use Rattle.meetings.proofs.reading.read.Goals as goal
 
-pub invariant-of-result : goal.invariant-of-result
-invariant-of-result c =
+pub invariant_of-result : goal.invariant_of-result
+invariant_of-result c =
     let bs = c.args.bytes.now in
-    let groups = limit_accepted (get_or bs 0 0) 0 _ (sym c.in-ok-groups.ensures) in
-    let stations = limit_accepted (get_or bs 1 0) 1 _ (sym c.in-ok-stations.ensures) in
-    let rooms = limit_accepted (get_or bs 2 0) 2 _ (sym c.in-ok-rooms.ensures) in
-    let many = count_accepted (get_or bs 3 0) (get_or bs 4 0) _ (sym c.in-ok-many.ensures) in
-    let said = meetings_accepted bs c.in-ok-groups.groups c.in-ok-stations.stations c.in-ok-many.many 5 [] _ (accepted_from_ok vec_items _ c.in-ok-meetings.ensures) in
+    let groups = limit_accepted (get_or bs 0 0) 0 _ (sym c.in_ok-groups.ensures) in
+    let stations = limit_accepted (get_or bs 1 0) 1 _ (sym c.in_ok-stations.ensures) in
+    let rooms = limit_accepted (get_or bs 2 0) 2 _ (sym c.in_ok-rooms.ensures) in
+    let many = count_accepted (get_or bs 3 0) (get_or bs 4 0) _ (sym c.in_ok-many.ensures) in
+    let said = meetings_accepted bs c.in_ok-groups.groups c.in_ok-stations.stations c.in_ok-many.many 5 [] _ (accepted_from_ok vec_items _ c.in_ok-meetings.ensures) in
     (groups.1, (stations.1, (rooms.1, (said_few said many.1, (said_exist said, tt)))))
 
 pub returns : goal.returns
 returns c =
     let bs = c.args.bytes.now in
-    let e = accepted_parts bs c.in-ok-groups.groups c.in-ok-stations.stations c.in-ok-rooms.rooms c.in-ok-many.many (vec_items c.in-ok-meetings.meetings) c.if-bytes-lt-HEAD.false (sym c.in-ok-groups.ensures) (sym c.in-ok-stations.ensures) (sym c.in-ok-rooms.ensures) (sym c.in-ok-many.ensures) (accepted_from_ok vec_items _ c.in-ok-meetings.ensures) in
-    record { answer = inr (sym e); back = (read_then_written bs _ (λ i. (c.type-inv.bytes i).fits) e).1 }
+    let e = accepted_parts bs c.in_ok-groups.groups c.in_ok-stations.stations c.in_ok-rooms.rooms c.in_ok-many.many (vec_items c.in_ok-meetings.meetings) c.if-bytes-lt-HEAD.false (sym c.in_ok-groups.ensures) (sym c.in_ok-stations.ensures) (sym c.in_ok-rooms.ensures) (sym c.in_ok-many.ensures) (accepted_from_ok vec_items _ c.in_ok-meetings.ensures) in
+    record { answer = inr (sym e); back = (read_then_written bs _ (λ i. (c.type_inv.bytes i).fits) e).1 }

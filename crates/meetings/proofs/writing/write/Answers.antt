@@ -7,20 +7,20 @@ use Rattle.meetings.proofs.Turns.{write_one, write_all}
 use Rattle.meetings.proofs.Written.{written_then_read}
 use Rattle.meetings.proofs.writing.write.Goals as goal
 
-pub overflow-cast-pair : goal.overflow-cast-pair
-overflow-cast-pair c = record {
+pub overflow_cast-pair : goal.overflow_cast-pair
+overflow_cast-pair c = record {
   fits = party_fits c.args.list.now _ c.meetings-meetings.ensures Groups _ c.loop-meeting-test.true;
 }
 
-pub overflow-cast-pair-in-loop-meeting : goal.overflow-cast-pair-in-loop-meeting
-overflow-cast-pair-in-loop-meeting c = record {
+pub overflow_cast-pair-in-loop-meeting : goal.overflow_cast-pair-in-loop-meeting
+overflow_cast-pair-in-loop-meeting c = record {
   fits = party_fits c.args.list.now _ c.meetings-meetings.ensures Stations _ c.loop-meeting-test.true;
 }
 
 pub loop-meeting-preserved : goal.loop-meeting-preserved
 loop-meeting-preserved c =
     write_one (vec_items c.loop-meeting.bytes) _ c.meetings-meetings.result.now _ c.loop-meeting-test.true
-    c.loop-meeting.invariant c.in-ok-extend-from-slice-2.ensures.items
+    c.loop-meeting.invariant c.in_ok-extend_from_slice-2.ensures.items
 
 pub returns : goal.returns
 returns c =

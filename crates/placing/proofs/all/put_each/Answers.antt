@@ -9,8 +9,8 @@ pub loop-meeting-init : goal.loop-meeting-init
 loop-meeting-init c =
     putting_starts c.args.rounds c.args.meetings.now c.args.shape c.args.board.now c.args.found.now (omega (arith, c.requires.board.groups.narrow)) c.requires.board c.requires.out c.requires.unused
 
-pub put-in-looks-requires : goal.put-in-looks-requires
-put-in-looks-requires c =
+pub put_in-looks-requires : goal.put_in-looks-requires
+put_in-looks-requires c =
     let ms = c.args.meetings.now in
     let i = c.loop-meeting.meeting in
     let at = c.loop-meeting.invariant in
@@ -26,4 +26,4 @@ put-in-looks-requires c =
 pub loop-meeting-preserved : goal.loop-meeting-preserved
 loop-meeting-preserved c =
     let here : c.loop-meeting.meeting < length c.args.meetings.now = omega (arith, c.loop-meeting-test.true, c.requires.board.few) in
-    putting_more c.args.rounds c.args.meetings.now c.args.shape _ _ _ _ _ _ c.loop-meeting.invariant here _ _ _ c.put-in-looks.ensures.rule c.put-in-looks.ensures.placed
+    putting_more c.args.rounds c.args.meetings.now c.args.shape _ _ _ _ _ _ c.loop-meeting.invariant here _ _ _ c.put_in-looks.ensures.rule c.put_in-looks.ensures.placed

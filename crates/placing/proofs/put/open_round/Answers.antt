@@ -15,7 +15,7 @@ exchange-requires c =
     let i = c.args.meeting.0 in
     let a = c.args.rounds.a.0 in
     let b = c.args.rounds.b.0 in
-    let is = c.list.ensures ∙ chain_is ms xs i a b _ _ _ c.requires.unused.empty c.of-station-first.ensures c.find-chain.ensures.list in
+    let is = c.list.ensures ∙ chain_is ms xs i a b _ _ _ c.requires.unused.empty c.of_station-first.ensures c.find_chain.ensures.list in
     record { board = c.requires.board; closed = exchangeable ms xs i a b _ _ c.args.shape _ is c.requires.opens c.requires.a c.requires.b }
 
 pub returns : goal.returns
@@ -26,7 +26,7 @@ returns c =
     let a = c.args.rounds.a.0 in
     let b = c.args.rounds.b.0 in
     let z = c.args.shape in
-    let found = chain_is ms xs i a b _ _ _ c.requires.unused.empty c.of-station-first.ensures c.find-chain.ensures.list in
+    let found = chain_is ms xs i a b _ _ _ c.requires.unused.empty c.of_station-first.ensures c.find_chain.ensures.list in
     let is = c.list.ensures ∙ found in
     let long = ap length (c.list-2.ensures ∙ found) in
     let la : a < none = omega (arith, c.requires.a.0, c.requires.board.groups.narrow) in
@@ -39,5 +39,5 @@ returns c =
       out = then_out ms xs i a b _ _ z _ is c.requires.opens la lb c.requires.out _ c.exchange.ensures.rounds;
       group_free = free Groups;
       station_free = free Stations;
-      forgotten = finds_then _ _ _ _ _ _ c.find-chain.ensures c.clear.ensures refl;
+      forgotten = finds_then _ _ _ _ _ _ c.find_chain.ensures c.clear.ensures refl;
     }

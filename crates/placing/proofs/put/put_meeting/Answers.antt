@@ -7,7 +7,7 @@ use Rattle.placing.proofs.put.put_meeting.Goals as goal
 
 pub place-requires : goal.place-requires
 place-requires c =
-    let free = common_vacant _ _ c.args.rounds c.args.meetings.now _ c.args.meeting.0 c.requires.ready c.common-free-common.result c.common-free-common.ensures c.if-common-rounds.true in
+    let free = common_vacant _ _ c.args.rounds c.args.meetings.now _ c.args.meeting.0 c.requires.ready c.common_free-common.result c.common_free-common.ensures c.if-common-rounds.true in
     record {
       board = c.requires.board;
       here = c.requires.ready.here;
@@ -18,10 +18,10 @@ place-requires c =
       station_free = free Stations;
     }
 
-pub put-by-chain-requires : goal.put-by-chain-requires
-put-by-chain-requires c =
-    let none_common : c.args.rounds ≤ common_free c.args.rounds c.args.meetings.now c.args.board.now.rounds.now c.args.meeting.0 = omega (arith, c.common-free-common.ensures, c.if-common-rounds.false) in
-    let found = chain_found_opens _ _ c.args.rounds c.args.meetings.now _ c.args.meeting.0 c.requires.ready c.own-free-a.result c.own-free-b.result none_common c.own-free-a.ensures c.own-free-b.ensures in
+pub put_by_chain-requires : goal.put_by_chain-requires
+put_by_chain-requires c =
+    let none_common : c.args.rounds ≤ common_free c.args.rounds c.args.meetings.now c.args.board.now.rounds.now c.args.meeting.0 = omega (arith, c.common_free-common.ensures, c.if-common-rounds.false) in
+    let found = chain_found_opens _ _ c.args.rounds c.args.meetings.now _ c.args.meeting.0 c.requires.ready c.own_free-a.result c.own_free-b.result none_common c.own_free-a.ensures c.own_free-b.ensures in
     record {
       board = c.requires.board;
       a = (omega (arith, found.0), omega (arith, found.0));
@@ -34,9 +34,9 @@ put-by-chain-requires c =
 
 pub returns : goal.returns
 returns c =
-    let none_common : c.args.rounds ≤ common_free c.args.rounds c.args.meetings.now c.args.board.now.rounds.now c.args.meeting.0 = omega (arith, c.common-free-common.ensures, c.if-common-rounds.false) in
-    let is = put_by_chain_is _ _ c.args.rounds c.args.meetings.now c.args.board.now.rounds.now c.args.meeting.0 c.requires.ready c.own-free-a.result c.own-free-b.result none_common c.own-free-a.ensures c.own-free-b.ensures in
-    let done = c.put-by-chain.ensures in
+    let none_common : c.args.rounds ≤ common_free c.args.rounds c.args.meetings.now c.args.board.now.rounds.now c.args.meeting.0 = omega (arith, c.common_free-common.ensures, c.if-common-rounds.false) in
+    let is = put_by_chain_is _ _ c.args.rounds c.args.meetings.now c.args.board.now.rounds.now c.args.meeting.0 c.requires.ready c.own_free-a.result c.own_free-b.result none_common c.own_free-a.ensures c.own_free-b.ensures in
+    let done = c.put_by_chain.ensures in
     record {
       board = rw (← is) done.board;
       looks = done.looks ∙ ap (λ (p : Placed). p.looks) is;

@@ -6,7 +6,7 @@ use Rattle.trials.proofs.lists.bytes_of.Goals as goal
 pub loop-meeting-preserved : goal.loop-meeting-preserved
 loop-meeting-preserved c =
     pair_more (vec_items c.loop-meeting.bytes) _ c.args.meetings.now _ c.loop-meeting-test.true c.loop-meeting.invariant
-    c.in-ok-extend-from-slice-2.ensures.items
+    c.in_ok-extend_from_slice-2.ensures.items
 
 pub returns : goal.returns
 returns c = all_pairs (vec_items c.loop-meeting.bytes) c.args.meetings.now _ c.loop-meeting-test.false c.loop-meeting.invariant

@@ -11,16 +11,16 @@ pub returns : goal.returns
 returns c = λ ms sized.
     let cleared : c.fill.new.self ≡ replicate (length ms) none = c.fill.ensures.after (λ y e. e) ∙ ap (λ n. replicate n none) sized.each in
     let z = c.args.shape in
-    let group_rest = cleared_beyond z.groups z.group_width _ _ c.requires.group_room c.clear-rows.ensures in
-    let station_rest = cleared_beyond z.stations z.station_width _ _ c.requires.station_room c.clear-rows-2.ensures in
+    let group_rest = cleared_beyond z.groups z.group_width _ _ c.requires.group_room c.clear_rows.ensures in
+    let station_rest = cleared_beyond z.stations z.station_width _ _ c.requires.station_room c.clear_rows-2.ensures in
     record {
       rounds = cleared;
       board = record {
         few = sized.few;
         each = ap length cleared ∙ length-replicate (length ms) none;
         round = λ i h. inl (ap (λ l. round_of l i) cleared ∙ none_at (length ms) i);
-        groups = cleared_rows z.groups z.group_width _ _ c.requires.group_room c.clear-rows.ensures (length ms) (party_of ms Groups) _ sized.group_narrow (sized.exist Groups) (λ i h. ap (λ l. round_of l i) cleared ∙ none_at (length ms) i);
-        stations = cleared_rows z.stations z.station_width _ _ c.requires.station_room c.clear-rows-2.ensures (length ms) (party_of ms Stations) _ sized.station_narrow (sized.exist Stations) (λ i h. ap (λ l. round_of l i) cleared ∙ none_at (length ms) i);
+        groups = cleared_rows z.groups z.group_width _ _ c.requires.group_room c.clear_rows.ensures (length ms) (party_of ms Groups) _ sized.group_narrow (sized.exist Groups) (λ i h. ap (λ l. round_of l i) cleared ∙ none_at (length ms) i);
+        stations = cleared_rows z.stations z.station_width _ _ c.requires.station_room c.clear_rows-2.ensures (length ms) (party_of ms Stations) _ sized.station_narrow (sized.exist Stations) (λ i h. ap (λ l. round_of l i) cleared ∙ none_at (length ms) i);
       };
       group_rest = group_rest;
       station_rest = station_rest;

@@ -28,7 +28,7 @@ chain-smaller c =
 pub chain-preserved : goal.chain-preserved
 chain-preserved c =
     let there = neighbour_there _ c.requires.board.few _ _ _ _ _ _ c.chain.invariant c.neighbour-next.result.0 c.neighbour-next.ensures c.if-next.false in
-    rw c.other-side-through.ensures (follow_on _ c.requires.board.few _ _ _ _ _ _ c.chain.invariant _ _ c.neighbour-next.ensures there (sym c.has.ensures ∙ c.if-has.false) c.add.ensures)
+    rw c.other_side-through.ensures (follow_on _ c.requires.board.few _ _ _ _ _ _ c.chain.invariant _ _ c.neighbour-next.ensures there (sym c.has.ensures ∙ c.if-has.false) c.add.ensures)
 
 pub returns : goal.returns
 returns c =

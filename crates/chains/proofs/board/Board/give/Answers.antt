@@ -9,11 +9,11 @@ use Rattle.chains.proofs.board.Board.give.Goals as goal
 pub place-requires : goal.place-requires
 place-requires c =
     let b = c.requires.board in
-    let ok = free_taken _ c.args.shape _ _ c.args.meeting.0 c.args.round b.each c.requires.here c.if-round-ne-NONE.true c.requires.free c.take-out.ensures.rounds in
-    record { board = c.take-out.ensures.board; here = c.requires.here; out = ok.0; group_width = ok.1.0; station_width = ok.1.1; group_free = ok.2 Groups; station_free = ok.2 Stations }
+    let ok = free_taken _ c.args.shape _ _ c.args.meeting.0 c.args.round b.each c.requires.here c.if-round-ne-NONE.true c.requires.free c.take_out.ensures.rounds in
+    record { board = c.take_out.ensures.board; here = c.requires.here; out = ok.0; group_width = ok.1.0; station_width = ok.1.1; group_free = ok.2 Groups; station_free = ok.2 Stations }
 
 pub returns-then-round-ne-NONE : goal.returns-then-round-ne-NONE
 returns-then-round-ne-NONE c =
     let xs = c.args.self.now.rounds.now in
     let i = c.args.meeting.0 in
-    becomes_then _ _ _ _ _ _ _ _ c.take-out.ensures c.place.ensures (ap (λ l. set l i c.args.round) c.take-out.ensures.rounds ∙ set-set xs i none c.args.round)
+    becomes_then _ _ _ _ _ _ _ _ c.take_out.ensures c.place.ensures (ap (λ l. set l i c.args.round) c.take_out.ensures.rounds ∙ set-set xs i none c.args.round)

@@ -5,7 +5,7 @@ use Rattle.chains.proofs.board.Board.row.Goals as goal
 
 pub returns : goal.returns
 returns c = record {
-  held = c.row-held.ensures;
-  long = row_long (rows_of c.args.side c.args.self.now) _ (width_of c.args.side c.args.shape) c.args.party c.requires.room c.row-held.ensures;
-  of-board = λ ms b h. row_of_board ms c.args.shape c.args.self.now c.args.side c.args.party _ c.requires.room c.row-held.ensures b h;
+  held = c.row_held.ensures;
+  long = row_long (rows_of c.args.side c.args.self.now) _ (width_of c.args.side c.args.shape) c.args.party c.requires.room c.row_held.ensures;
+  of_board = λ ms b h. row_of_board ms c.args.shape c.args.self.now c.args.side c.args.party _ c.requires.room c.row_held.ensures b h;
 }

@@ -9,8 +9,8 @@ use Rattle.chains.proofs.board.Board.shift.Goals.{then-round-of-from, else-round
 pub loop-member-init : goal.loop-member-init
 loop-member-init c = becomes_same _ _ _ _ c.requires.board (shifted_start c.args.from c.args.to c.args.members.now c.args.self.now.rounds.now)
 
-pub round-of-requires : goal.round-of-requires
-round-of-requires c =
+pub round_of-requires : goal.round_of-requires
+round_of-requires c =
     let is = c.args.members.now in
     let t = c.loop-member.member-index in
     let h = c.requires.movable.below (get_or is t 0) (place_held is t 0 c.loop-member-test.true) in
@@ -23,7 +23,7 @@ give-requires c =
     record {
       board = c.loop-member.invariant.board;
       here = c.requires.movable.below (get_or is t 0) (place_held is t 0 c.loop-member-test.true);
-      free = turn_free c.args.from c.args.to t is c.args.self.now.rounds.now _ c.loop-member-test.true c.loop-member.invariant.rounds c.args.meetings.now c.args.shape c.requires.board.each c.requires.movable c.requires.within (sym c.round-of.ensures ∙ c.if-round-of-from.true);
+      free = turn_free c.args.from c.args.to t is c.args.self.now.rounds.now _ c.loop-member-test.true c.loop-member.invariant.rounds c.args.meetings.now c.args.shape c.requires.board.each c.requires.movable c.requires.within (sym c.round_of.ensures ∙ c.if-round_of-from.true);
     }
 
 pub loop-member-preserved : goal.loop-member-preserved
@@ -32,9 +32,9 @@ loop-member-preserved c =
     let t = c.loop-member.member-index in
     let h = c.requires.movable.below (get_or is t 0) (place_held is t 0 c.loop-member-test.true) in
     let xs = c.args.self.now.rounds.now in
-    elim c.if-round-of-from.branch [
-      | then-round-of-from w ↦ rw w.self-is (becomes_then c.args.meetings.now c.args.shape _ _ _ _ _ _ c.loop-member.invariant w.give.ensures (turn_gives c.args.from c.args.to t is xs _ c.loop-member-test.true c.loop-member.invariant.rounds (omega (arith, c.requires.board.each)) (sym c.round-of.ensures ∙ w.if-round-of-from.true)))
-      | else-round-of-from w ↦ rw w.self-is (becomes_also c.args.meetings.now c.args.shape _ _ _ _ c.loop-member.invariant (sym c.loop-member.invariant.rounds ∙ turn_leaves c.args.from c.args.to t is xs _ c.loop-member-test.true c.loop-member.invariant.rounds (λ e. w.if-round-of-from.false (c.round-of.ensures ∙ e))))
+    elim c.if-round_of-from.branch [
+      | then-round_of-from w ↦ rw w.self-is (becomes_then c.args.meetings.now c.args.shape _ _ _ _ _ _ c.loop-member.invariant w.give.ensures (turn_gives c.args.from c.args.to t is xs _ c.loop-member-test.true c.loop-member.invariant.rounds (omega (arith, c.requires.board.each)) (sym c.round_of.ensures ∙ w.if-round_of-from.true)))
+      | else-round_of-from w ↦ rw w.self-is (becomes_also c.args.meetings.now c.args.shape _ _ _ _ c.loop-member.invariant (sym c.loop-member.invariant.rounds ∙ turn_leaves c.args.from c.args.to t is xs _ c.loop-member-test.true c.loop-member.invariant.rounds (λ e. w.if-round_of-from.false (c.round_of.ensures ∙ e))))
     ]
 
 pub returns : goal.returns

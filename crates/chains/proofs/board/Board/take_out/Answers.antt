@@ -10,13 +10,13 @@ pub returns-then-round : goal.returns-then-round
 returns-then-round c =
     let b = c.requires.board in
     let i = c.args.meeting.0 in
-    let round = c.round-of-round.result.0 in
-    let here = sym c.round-of-round.ensures in
+    let round = c.round_of-round.result.0 in
+    let here = sym c.round_of-round.ensures in
     let within = within_widths _ _ _ _ _ i b c.requires.here round here c.if-round.true in
-    let w = c.write-entries.ensures in
+    let w = c.write_entries.ensures in
     record {
       rounds = w.rounds;
-      board = on_with c.args.meetings.now c.args.shape c.write-entries.new.self _ w.rounds (board_taken c.args.meetings.now c.args.shape _ _ _ i b c.requires.here round _ _ here within.0 within.1 w.groups w.stations);
+      board = on_with c.args.meetings.now c.args.shape c.write_entries.new.self _ w.rounds (board_taken c.args.meetings.now c.args.shape _ _ _ i b c.requires.here round _ _ here within.0 within.1 w.groups w.stations);
       group_rest = beyond_set _ _ _ round none _ _ (b.groups.parties i c.requires.here) within.0 w.groups;
       station_rest = beyond_set _ _ _ round none _ _ (b.stations.parties i c.requires.here) within.1 w.stations;
       same_rounds = w.same_rounds;
@@ -28,4 +28,4 @@ pub returns-else-round : goal.returns-else-round
 returns-else-round c =
     let xs = c.args.self.now.rounds.now in
     let i = c.args.meeting.0 in
-    becomes_same _ _ _ _ c.requires.board (sym (set-get_or xs i none) ∙ ap (set xs i) (sym c.round-of-round.ensures ∙ c.if-round.false))
+    becomes_same _ _ _ _ c.requires.board (sym (set-get_or xs i none) ∙ ap (set xs i) (sym c.round_of-round.ensures ∙ c.if-round.false))

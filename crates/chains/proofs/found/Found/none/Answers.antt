@@ -3,4 +3,4 @@ use Rattle.chains.proofs.Marks.{marked_none}
 use Rattle.chains.proofs.found.Found.none.Goals as goal
 
 pub returns : goal.returns
-returns c = marked_none _ c.args.many c.in-ok-marks.ensures c.in-ok-list.ensures.0 c.in-ok-list.ensures.1
+returns c = marked_none _ c.args.many c.in_ok-marks.ensures c.in_ok-list.ensures.0 c.in_ok-list.ensures.1
