@@ -13,7 +13,13 @@ invariant_of-result c =
     let rooms = limit_accepted (get_or bs 2 0) 2 _ (sym c.in_ok-rooms.ensures) in
     let many = count_accepted (get_or bs 3 0) (get_or bs 4 0) _ (sym c.in_ok-many.ensures) in
     let said = meetings_accepted bs c.in_ok-groups.groups c.in_ok-stations.stations c.in_ok-many.many 5 [] _ (accepted_from_ok vec_items _ c.in_ok-meetings.ensures) in
-    (groups.1, (stations.1, (rooms.1, (said_few said many.1, (said_exist said, tt)))))
+    record {
+      groups_within = groups.1;
+      stations_within = stations.1;
+      rooms_within = rooms.1;
+      few = said_few said many.1;
+      exist = said_exist said;
+    }
 
 pub returns : goal.returns
 returns c =
