@@ -33,4 +33,4 @@ chain-preserved c =
 pub returns : goal.returns
 returns c =
     let ended = follow_ends _ c.requires.board.few _ _ _ _ _ _ c.chain.invariant c.neighbour-next.result.0 c.neighbour-next.ensures in
-    elim c.then_next.branch [ then-next-via-then-next w ↦ ended (inl w.if-next.true) | then-next-via-else-next+then-has w ↦ ended (inr (sym w.has.ensures ∙ w.if-has.true)) ]
+    elim c.then-next.branch [ then-next-via-then-next w ↦ ended (inl w.if-next.true) | then-next-via-else-next+then-has w ↦ ended (inr (sym w.has.ensures ∙ w.if-has.true)) ]

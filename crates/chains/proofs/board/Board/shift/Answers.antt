@@ -4,7 +4,7 @@ use Rattle.chains.proofs.BoardKept.{becomes_same, becomes_then, becomes_also}
 use Rattle.chains.proofs.Members.{place_held}
 use Rattle.chains.proofs.Shifts.{shifted_start, shifted_all, turn_free, turn_gives, turn_leaves}
 use Rattle.chains.proofs.board.Board.shift.Goals as goal
-use Rattle.chains.proofs.board.Board.shift.Goals.{then-round-of-from, else-round-of-from}
+use Rattle.chains.proofs.board.Board.shift.Goals.{then-round_of-from, else-round_of-from}
 
 pub loop-member-init : goal.loop-member-init
 loop-member-init c = becomes_same _ _ _ _ c.requires.board (shifted_start c.args.from c.args.to c.args.members.now c.args.self.now.rounds.now)
