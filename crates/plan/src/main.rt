@@ -4,6 +4,7 @@
 ghost use Rattle.meetings.specs.Bytes.{read_list};
 ghost use Rattle.meetings.specs.Refusals.{accepted, then, Answers};
 ghost use Rattle.fewest.specs.Rounds.{fewest};
+
 // What the program is to print once plans keep to the rooms. Proved, and not called yet.
 mod making;
 mod report;
@@ -12,6 +13,7 @@ use fewest::fewest_rounds;
 use meetings::Refusal;
 use std::alloc::Global;
 use std::io::Read;
+use std::process::ExitCode;
 use std::{env, fs, io};
 
 const USAGE: &str = "usage: plan DAY
@@ -26,9 +28,6 @@ enum Ending {
     Done,
     Failed,
 }
-
-// What main answers for the exit status 1.
-struct Failure;
 
 fn bytes_of(rt: &HostRuntime, path: &str) -> io::Result<Vec<u8>> {
     if path != "-" {
@@ -82,13 +81,13 @@ fn run(rt: &HostRuntime) -> io::Result<Ending> {
     plan(rt, path.as_str())
 }
 
-fn main(rt: HostRuntime) -> Result<(), Failure> {
+fn main(rt: HostRuntime) -> ExitCode {
     match run(&rt) {
-        Ok(Ending::Done) => Ok(()),
-        Ok(Ending::Failed) => Err(Failure),
+        Ok(Ending::Done) => ExitCode::SUCCESS,
+        Ok(Ending::Failed) => ExitCode::FAILURE,
         Err(e) => {
             let _ = eprintln!(rt; "plan: {e}");
-            Err(Failure)
+            ExitCode::FAILURE
         }
     }
 }
