@@ -35,7 +35,7 @@ fn a_small_list(rt: HostRuntime) -> Result<(), Fail> {
     assert_eq!(rt; (meetings[0].group.0, meetings[0].station.0), (2, 1));
     assert_eq!(rt; (meetings[1].group.0, meetings[1].station.0), (0, 0));
     let bytes = write(rt.alloc(), &list)?;
-    assert_eq!(rt; bytes.as_slice(), &SMALL);
+    assert_eq!(rt; bytes.as_slice(), SMALL.as_slice());
     Ok(())
 }
 

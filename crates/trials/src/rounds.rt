@@ -34,8 +34,8 @@ fn each_party_is_counted(rt: HostRuntime) -> Result<(), Fail> {
     let bytes = bytes_of(rt.alloc(), 3, 4, 2, &[(0, 0), (2, 1), (0, 0), (0, 3)])?;
     let list = read(rt.alloc(), &bytes)?;
     let tally = Tally::of(rt.alloc(), &list)?;
-    assert_eq!(rt; tally.groups(), &[3, 0, 1]);
-    assert_eq!(rt; tally.stations(), &[2, 1, 0, 1]);
+    assert_eq!(rt; tally.groups(), [3u16, 0, 1].as_slice());
+    assert_eq!(rt; tally.stations(), [2u16, 1, 0, 1].as_slice());
     assert_eq!(rt; tally.busiest(), 3);
     Ok(())
 }
