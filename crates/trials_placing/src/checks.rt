@@ -4,7 +4,7 @@ use crate::rule::{number_of_rounds, put_all};
 use meetings::{Meeting, MeetingList, Refusal, read};
 use std::alloc::Global;
 use std::process::Abort;
-use std::test::*;
+use std::test::Fail;
 use trials::bytes_of;
 
 pub(crate) fn list_of(
@@ -56,6 +56,6 @@ pub(crate) fn check_placed(
     let parties = u64::from(list.groups()).saturating_add(u64::from(list.stations()));
     assert!(rt; planned.looks <= (meetings.len() as u64).saturating_mul(parties.saturating_add(1)));
     assert!(rt; is_plan(meetings, &lent.rounds, many));
-    lent.check_same(&Slices::with(heap, lengths, list, &right.rounds)?)?;
+    lent.check_same(rt, &Slices::with(heap, lengths, list, &right.rounds)?);
     Ok(planned.looks.saturating_sub(meetings.len() as u64))
 }

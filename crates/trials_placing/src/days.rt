@@ -3,7 +3,7 @@ use crate::checks::list_of;
 use crate::lent::{Lengths, Slices};
 use meetings::Meeting;
 use std::alloc::{AllocError, Global};
-use std::test::*;
+use std::test::Fail;
 
 // 4,000 meetings of one pair have a round each, in their order.
 #[test]

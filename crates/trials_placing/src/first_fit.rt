@@ -4,7 +4,7 @@ use crate::lent::Slices;
 use crate::worked::{CHAIN_OF_ONE, TWO_CHAINS, just_enough};
 use fewest::fewest_rounds;
 use std::alloc::{AllocError, Global};
-use std::test::*;
+use std::test::Fail;
 
 // Whether an earlier meeting in the round has the group or the station.
 fn is_taken(meetings: &[(u8, u8)], rounds: &[u16], meeting: (u8, u8), round: u16) -> bool {

@@ -3,7 +3,7 @@ use crate::rule::{NONE, met};
 use meetings::{Meeting, MeetingList, Refusal, Side};
 use placing::{Planned, place_all};
 use std::alloc::{AllocError, Global};
-use std::test::*;
+use std::process::Abort;
 
 // The lengths of the lent rounds, the rows of the groups, and the rows of the stations.
 #[derive(Clone, Copy)]
@@ -108,10 +108,9 @@ impl Slices {
         )
     }
 
-    pub(crate) fn check_same(&self, other: &Slices) -> Result<(), Fail> {
-        assert_eq!(self.rounds.as_slice(), other.rounds.as_slice());
-        assert_eq!(self.group_rows.as_slice(), other.group_rows.as_slice());
-        assert_eq!(self.station_rows.as_slice(), other.station_rows.as_slice());
-        Ok(())
+    pub(crate) fn check_same(&self, rt: &impl Abort, other: &Slices) {
+        assert_eq!(rt; self.rounds.as_slice(), other.rounds.as_slice());
+        assert_eq!(rt; self.group_rows.as_slice(), other.group_rows.as_slice());
+        assert_eq!(rt; self.station_rows.as_slice(), other.station_rows.as_slice());
     }
 }

@@ -3,7 +3,7 @@ use crate::checks::{check_placed, list_of};
 use crate::lent::Lengths;
 use crate::rule::number_of_rounds;
 use std::alloc::{AllocError, Global};
-use std::test::*;
+use std::test::Fail;
 use trials::Random;
 
 // Whether the group and the station of a meeting have both fewer meetings than the most.

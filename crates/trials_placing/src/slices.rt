@@ -5,7 +5,7 @@ use meetings::{Lent, MeetingList, Refusal};
 use placing::place_all;
 use std::alloc::Global;
 use std::process::Abort;
-use std::test::*;
+use std::test::Fail;
 
 // A slice is refused, and nothing lent has changed.
 fn check_short(
@@ -20,7 +20,8 @@ fn check_short(
         lent.place(heap, list).err(),
         Some(Refusal::ShortSlice(short))
     );
-    lent.check_same(&Slices::new(heap, lengths)?)
+    lent.check_same(rt, &Slices::new(heap, lengths)?);
+    Ok(())
 }
 
 // Five meetings of three groups and two stations, which take three rounds: 5, 9 and 6 entries are just enough.

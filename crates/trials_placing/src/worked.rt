@@ -4,7 +4,7 @@ use crate::lent::{Lengths, Slices};
 use meetings::MeetingList;
 use std::alloc::Global;
 use std::process::Abort;
-use std::test::*;
+use std::test::Fail;
 
 // One chain of one meeting: station 0 has meeting 2 in round 0, and the group of that is free in round 1.
 pub(crate) const CHAIN_OF_ONE: [(u8, u8); 4] = [(1, 1), (0, 1), (2, 0), (0, 0)];
