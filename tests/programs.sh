@@ -25,7 +25,11 @@ expect() {
 
 bytes() { printf "$1" >"$work/day"; }
 
-plan=target/bin/plan
+(cd crates/plan && rt run -- --help) >"$work/built" 2>&1 || {
+    cat "$work/built"
+    exit 1
+}
+plan=crates/plan/out/plan
 expect 0 'rounds 11' '' $plan examples/school.day
 expect 0 'rounds 11' '' $plan - <examples/school.day
 expect 0 'usage: plan DAY*' '' $plan --help
