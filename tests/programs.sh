@@ -1,6 +1,6 @@
 #!/usr/bin/env bash
-# What the built programs print, where, and with which exit status: what no contract can say, and a run of rt cannot try,
-# since that must end with status 0.
+# What the built programs print, where, and with which exit status: what no contract can say, and rt does not try, since it
+# tries one run of a program and does not look at standard error.
 set -uo pipefail
 cd "$(dirname "${BASH_SOURCE[0]}")/.."
 work=$(mktemp -d)
