@@ -74,8 +74,9 @@ two-steps walked-more wide-enough width-of with-all
 """
 
 RENAMED = {name: spelled(name) for name in NAMES.split()}
-# A family of types, and so in capitals.
+# Facts that the rule does not find: a family of types in small letters, and one that the toolchain's script had respelled.
 RENAMED["nowhere"] = "Nowhere"
+RENAMED["Placed_all"] = "PlacedAll"
 # A name of the checker's own follows `c.` or `l.`, and stays.
 TOKEN = re.compile(r"(?<![\w'·-])(?<!\bc\.)(?<!\bl\.)[A-Za-z][\w']*(?:-[\w']+)*")
 

@@ -1,5 +1,5 @@
 // Exchanging two rounds on a set of meetings.
-ghost use Rattle.std.specs.Prelude.{◌≡◌, ◌<◌, ◌⊎◌, length, set, slice_set};
+ghost use Rattle.std.specs.Prelude.{◌≡◌, ◌<◌, ◌⊎◌, length, slice_set};
 ghost use Rattle.fewest.specs.Plans.{none};
 ghost use Rattle.chains.specs.Boards.{On, Becomes, FreeFor, WithinRows, rounds_on};
 ghost use Rattle.chains.specs.Exchanges.{Exchangeable, Movable, exchanged, shifted};

@@ -1,5 +1,5 @@
 // The meetings that were found while chains are followed, each once.
-ghost use Rattle.std.specs.Prelude.{◌≡◌, ◌<◌, ◌≤◌, true, false, [], ◌∷◌, ◌++◌, length, set, replicate, vec_capacity, slice_set};
+ghost use Rattle.std.specs.Prelude.{◌≡◌, ◌<◌, ◌≤◌, true, false, [], ◌∷◌, ◌++◌, length, replicate, vec_capacity, slice_set};
 ghost use Rattle.meetings.specs.Refusals.{IfMemory};
 ghost use Rattle.chains.specs.Chains.{holds};
 ghost use Rattle.chains.specs.Finding.{Finds, Marked, Unused, among_all, found_in};

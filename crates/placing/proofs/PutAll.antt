@@ -12,7 +12,7 @@ use Rattle.fewest.proofs.Busiest.{busiest_is}
 use Rattle.chains.specs.Partial.{Partial, round_of, party_of}
 use Rattle.chains.proofs.EmptyBoard.{none_at}
 use Rattle.placing.specs.Putting.{Placed, placed, put, put_from, put_all}
-use Rattle.placing.specs.Statements.{Ready, Spare, PutIn, Placed_all, PutsAll, Enough}
+use Rattle.placing.specs.Statements.{Ready, Spare, PutIn, PlacedAll, PutsAll, Enough}
 use Rattle.placing.proofs.PutOne.{puts}
 
 -- where meeting i comes: those before it have a round below r, it and those behind it have none
@@ -45,7 +45,7 @@ one_before n k r ms i p q here before put = record {
 }
 
 -- when all are put in it is a plan
-all_before : (n k r : ℕ) (ms : List Meeting) (p : Placed) → PutBefore n k r ms (length ms) p → Placed_all n k r ms p
+all_before : (n k r : ℕ) (ms : List Meeting) (p : Placed) → PutBefore n k r ms (length ms) p → PlacedAll n k r ms p
 all_before n k r ms p before = record {
   plan = record { each = before.plan.each; round = before.done; apart = before.plan.apart };
   looks = before.looks;
@@ -101,7 +101,7 @@ puts_all n k r ms exist few le spare = all_before n k r ms (put_all r ms) (from 
         from left (suc i) _ (omega arith) (one_before n k r ms i p (put r ms p.rounds i) here before one)
 
 -- the same of what was left on a board, and counted
-pub placed_all_as : (n k r : ℕ) (ms : List Meeting) (p : Placed) (ys : List ℕ) (looks : ℕ) → ys ≡ p.rounds → looks ≡ p.looks → Placed_all n k r ms p → Placed_all n k r ms (placed ys looks)
+pub placed_all_as : (n k r : ℕ) (ms : List Meeting) (p : Placed) (ys : List ℕ) (looks : ℕ) → ys ≡ p.rounds → looks ≡ p.looks → PlacedAll n k r ms p → PlacedAll n k r ms (placed ys looks)
 placed_all_as n k r ms p ys looks e f h = rw (e, f) h
 
 -- SO MANY ROUNDS AS THE BUSIEST HAS MEETINGS, OR MORE

@@ -64,7 +64,7 @@ Enough =
     (xs : List ℕ) × Plan r d.meetings xs
 
 -- what is left when all are put in: a plan with r rounds, made with bounded looks
-pub record Placed_all (n k r : ℕ) (ms : List Meeting) (p : Placed) : Type 0 where
+pub record PlacedAll (n k r : ℕ) (ms : List Meeting) (p : Placed) : Type 0 where
   pub plan : Plan r ms p.rounds
   pub looks : p.looks ≤ length ms * (1 + n + k)
 
@@ -72,4 +72,4 @@ pub record Placed_all (n k r : ℕ) (ms : List Meeting) (p : Placed) : Type 0 wh
 abbrev pub PutsAll : Type 0
 PutsAll =
     (n k r : ℕ) (ms : List Meeting) → Exist n k ms → length ms ≤ none → r ≤ none → ((i : ℕ) → i < length ms → Spare r ms i) →
-    Placed_all n k r ms (put_all r ms)
+    PlacedAll n k r ms (put_all r ms)

@@ -6,7 +6,7 @@ ghost use Rattle.chains.specs.Finding.{Unused};
 ghost use Rattle.chains.specs.Shapes.{Sized};
 ghost use Rattle.placing.specs.OnBoard.{PutsOn};
 ghost use Rattle.placing.specs.Putting.{placed, put_all};
-ghost use Rattle.placing.specs.Statements.{Placed_all, Spare};
+ghost use Rattle.placing.specs.Statements.{PlacedAll, Spare};
 
 use crate::put::put_in;
 use chains::{Board, Found, Shape};
@@ -50,7 +50,7 @@ pub fn put_in_all(
     requires spare { (i : ℕ) → i < length meetings.now → Spare rounds meetings.now i }
     requires unused { Unused found.old (length meetings.now) }
     ensures rule { PutsOn meetings.now shape board.old board.new found.old found.new (put_all rounds meetings.now) result }
-    ensures placed { Placed_all shape.groups shape.stations rounds meetings.now (placed (rounds_on board.new) result) }
+    ensures placed { PlacedAll shape.groups shape.stations rounds meetings.now (placed (rounds_on board.new) result) }
 {
     board.empty(shape);
     put_each(board, meetings, shape, rounds, found)
