@@ -1,7 +1,8 @@
-// Whether rounds are a plan, and whether a list is placed as it should be.
+// Whether a list is placed as it should be.
 use crate::lent::{Lengths, Slices};
+use crate::plans::is_plan;
 use crate::rule::{number_of_rounds, put_all};
-use meetings::{Meeting, MeetingList, Refusal, read};
+use meetings::{MeetingList, Refusal, read};
 use std::alloc::Global;
 use std::process::Abort;
 use std::test::Fail;
@@ -16,27 +17,6 @@ pub(crate) fn list_of(
 ) -> Result<MeetingList, Refusal> {
     let bytes = bytes_of(heap, groups, stations, rooms, meetings)?;
     read(heap, &bytes)
-}
-
-// Each meeting has one of so many rounds, and no two in one round have a group or a station in common. All pairs are compared.
-pub(crate) fn is_plan(meetings: &[Meeting], rounds: &[u16], many: u16) -> bool {
-    if rounds.len() < meetings.len() {
-        return false;
-    }
-    for one in 0..meetings.len() {
-        if rounds[one] >= many {
-            return false;
-        }
-        for other in 0..one {
-            if rounds[one] == rounds[other]
-                && (meetings[one].group.0 == meetings[other].group.0
-                    || meetings[one].station.0 == meetings[other].station.0)
-            {
-                return false;
-            }
-        }
-    }
-    true
 }
 
 // A list is placed by the rule, into slices of these lengths. Answers how many meetings were on chains.

@@ -1,6 +1,7 @@
 // First fit, which never moves a meeting, takes rounds too many where placing does not.
-use crate::checks::{is_plan, list_of};
+use crate::checks::list_of;
 use crate::lent::Slices;
+use crate::plans::is_plan;
 use crate::worked::{CHAIN_OF_ONE, TWO_CHAINS, just_enough};
 use fewest::fewest_rounds;
 use std::alloc::{AllocError, Global};

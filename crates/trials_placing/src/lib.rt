@@ -1,4 +1,5 @@
-// Tests of placing: worked lists, refusals, the largest lists, and random lists beside the rule written once more.
+// Tests of placing: worked lists, refusals, the largest lists, and random lists beside the rule written once more. What they
+// call a plan is public, and proved.
 #![tactic(auto)]
 
 #[cfg(test)]
@@ -9,6 +10,7 @@ mod days;
 mod first_fit;
 #[cfg(test)]
 mod lent;
+mod plans;
 #[cfg(test)]
 mod random_lists;
 #[cfg(test)]
@@ -17,3 +19,5 @@ mod rule;
 mod slices;
 #[cfg(test)]
 mod worked;
+
+pub use plans::is_plan;

@@ -1,6 +1,7 @@
 // Worked lists: the rounds and the looks follow from the rule by hand.
-use crate::checks::{is_plan, list_of};
+use crate::checks::list_of;
 use crate::lent::{Lengths, Slices};
+use crate::plans::is_plan;
 use meetings::MeetingList;
 use std::alloc::Global;
 use std::process::Abort;
