@@ -16,6 +16,11 @@ abbrev pub party : Side → Meeting → ℕ
 party Groups m = m.group.0
 party Stations m = m.station.0
 
+-- the other side
+abbrev pub other_side : Side → Side
+other_side Groups = Stations
+other_side Stations = Groups
+
 -- how many parties a side has, of n groups and k stations
 abbrev pub parties : Side → ℕ → ℕ → ℕ
 parties Groups n k = n

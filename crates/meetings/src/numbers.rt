@@ -1,4 +1,6 @@
 // What is numbered, each number a type of its own, and a meeting.
+ghost use Rattle.std.specs.Prelude.{◌≡◌};
+ghost use Rattle.meetings.specs.Lists.{other_side, party};
 
 // The number of a group, from 0.
 #[derive(Clone, Copy, PartialEq, Eq, Debug)]
@@ -28,4 +30,27 @@ pub struct Meeting {
 pub enum Side {
     Groups,
     Stations,
+}
+
+impl Meeting {
+    // The number of its group or of its station.
+    pub fn party(self, side: Side) -> u16
+        ensures { result ≡ party side self }
+    {
+        match side {
+            Side::Groups => self.group.0,
+            Side::Stations => self.station.0,
+        }
+    }
+}
+
+impl Side {
+    pub fn other(self) -> Side
+        ensures { result ≡ other_side self }
+    {
+        match self {
+            Side::Groups => Side::Stations,
+            Side::Stations => Side::Groups,
+        }
+    }
 }
