@@ -5,8 +5,9 @@ use Rattle.meetings.specs.declared.numbers.Side.{Side}
 use Rattle.meetings.specs.declared.numbers.Side.TheVariants.{Groups, Stations}
 use Rattle.fewest.specs.Plans.{none}
 use Rattle.chains.specs.declared.found.Found.{Found}
-use Rattle.chains.specs.Chains.{Two, in_two, other_side, near, holds, nothing, with_one, left_of, walked, chain, part}
-use Rattle.chains.specs.Finding.{Finds, Marked, among_all, found_in}
+use Rattle.meetings.specs.Lists.{other_side}
+use Rattle.chains.specs.Chains.{Two, in_two, near, holds, nothing, with_one, left_of, walked, chain, part}
+use Rattle.chains.specs.Finding.{Finds, among_all, found_in}
 use Rattle.chains.proofs.Entries.{at_cases}
 use Rattle.chains.proofs.Marks.{holds_more}
 use Rattle.chains.proofs.Members.{all_append, left_with_one}
@@ -24,14 +25,13 @@ walked_stops t V s j stop = run_same t V s j _ _ (followed t V s j) stop
 pub record Following (t : Two) (v : Found) (side : Side) (from : ℕ) (w : Found) (s : Side) (j : ℕ) : Type 0 where
   pub here : j < t.many
   pub of_two : in_two t j ≡ true
-  pub marked : Marked w
   pub among : among_all w ≡ among_all v
   pub whole : found_in w ++ walked t (holds (found_in w)) s j ≡ found_in v ++ walked t (holds (found_in v)) side from
 
 module _ (t : Two) (few : t.many ≤ none) (v w : Found) (side s : Side) (from j : ℕ) (f : Following t v side from w s j) where
   -- a neighbour that there is
-  pub neighbour_there : (z : ℕ) → z ≡ near t s j → (z ≡ none → ⊥) → z < t.many
-  neighbour_there z e some = ⊎_elim (λ past. absurd (some (e ∙ past))) (λ below. rw e below) (at_cases t.many (t.party s) t.round (t.party s j) _)
+  pub neighbour_there : (z : ℕ) → z ≡ near t s j → (near t s j ≡ none → ⊥) → z < t.many
+  neighbour_there z e some = ⊎_elim (λ past. absurd (some past)) (λ below. rw e below) (at_cases t.many (t.party s) t.round (t.party s j) _)
 
   pub follow_on : (z : ℕ) (w' : Found) → z ≡ near t s j → z < t.many → holds (found_in w) z ≡ false → Finds w w' (found_in w ++ z ∷ []) → Following t v side from w' (other_side s) z
   follow_on z w' e below out more =
@@ -42,7 +42,6 @@ module _ (t : Two) (few : t.many ≤ none) (v w : Found) (side s : Side) (from j
       record {
         here = below;
         of_two = ap (in_two t) e ∙ near_in t few s j f.of_two near_below;
-        marked = more.marked;
         among = more.among ∙ f.among;
         whole = ap (λ V. found_in w' ++ walked t V (other_side s) z) held ∙ ap (λ l. l ++ walked t (with_one (holds (found_in w)) z) (other_side s) z) more.list ∙ append_assoc (found_in w) (z ∷ []) _ ∙ ap (λ l. found_in w ++ l) (sym step) ∙ f.whole;
       }
@@ -54,7 +53,6 @@ module _ (t : Two) (few : t.many ≤ none) (v w : Found) (side s : Side) (from j
 
   pub follow_ends : (z : ℕ) → z ≡ near t s j → (z ≡ none) ⊎ (holds (found_in w) z ≡ true) → Finds v w (found_in v ++ walked t (holds (found_in v)) side from)
   follow_ends z e stop = record {
-    marked = f.marked;
     among = f.among;
     list = sym (append-nil (found_in w)) ∙ ap (λ l. found_in w ++ l) (sym (walked_stops t (holds (found_in w)) s j (⊎_elim (λ past. inl (omega arith)) (λ there. inr (ap (holds (found_in w)) (sym e) ∙ there)) stop))) ∙ f.whole;
   }
@@ -72,4 +70,4 @@ part_found t is js i e =
     ∙ ap (λ V. is ++ (chain t (holds is) i ++ walked t V Stations i)) (all_append nothing is (chain t (holds is) i))
 
 pub finds_then : (u v w : Found) (is js ks : List ℕ) → Finds u v is → Finds v w js → js ≡ ks → Finds u w ks
-finds_then u v w is js ks one two e = record { marked = two.marked; among = two.among ∙ one.among; list = two.list ∙ e }
+finds_then u v w is js ks one two e = record { among = two.among ∙ one.among; list = two.list ∙ e }

@@ -3,7 +3,8 @@
 use Rattle.std.proofs.Common.{◌≡◌, ℕ, ◌<◌, Bool, true, ◌⊎◌, List, [], ◌∷◌, ◌++◌, sym, refl, ap, ◌∙◌, inl, inr, ⊎_elim, arith}
 use Rattle.meetings.specs.declared.numbers.Side.{Side}
 use Rattle.meetings.specs.declared.numbers.Side.TheVariants.{Groups, Stations}
-use Rattle.chains.specs.Chains.{Two, in_two, Sound, Closed, other_side, near, with_one, with_all}
+use Rattle.meetings.specs.Lists.{other_side}
+use Rattle.chains.specs.Chains.{Two, in_two, Sound, Closed, near, with_one, with_all}
 use Rattle.chains.proofs.Members.{one_cases, one_there, one_before, all_before, all_append}
 use Rattle.chains.proofs.Near.{near_found, near_in, near_or_self}
 use Rattle.chains.proofs.Walks.{Run}

@@ -1,9 +1,9 @@
 -- Cleared rows are the rows of meetings without a round. Assumes nothing.
-use Rattle.std.proofs.Common.{◌≡◌, ℕ, ◌+◌, ◌*◌, ◌<◌, ◌≤◌, List, ◌++◌, length, get_or, drop, replicate, ap, ◌∙◌, inl, ⊎_elim, mul-le-mul_right, suc-mul, arith}
+use Rattle.std.proofs.Common.{◌≡◌, ℕ, ◌+◌, ◌*◌, ◌<◌, ◌≤◌, List, ◌++◌, length, get_or, drop, replicate, ap, ◌∙◌, ⊎_elim, mul-le-mul_right, suc-mul, arith}
 use Rattle.std.proofs.lemmas.List.{drop_at, get_or_append_left, get_or_past, get_or-replicate, length-append, length-drop, length-replicate}
 use Rattle.std.proofs.lemmas.Bool.{cases_lt}
 use Rattle.fewest.specs.Plans.{none}
-use Rattle.chains.specs.Boards.{Rows, Beyond}
+use Rattle.chains.specs.Rows.{Rows, Beyond}
 use Rattle.chains.proofs.RowsKept.{place_before}
 
 module _ (n w : ℕ) (rows rows' : List ℕ) (room : n * w ≤ length rows) (cleared : rows' ≡ replicate (n * w) none ++ drop (n * w) rows) where
@@ -19,7 +19,7 @@ module _ (n w : ℕ) (rows rows' : List ℕ) (room : n * w ≤ length rows) (cle
     parties = exist;
     room = λ p h. let more = suc-mul p w in omega (arith, mul-le-mul_right w h, cleared_beyond.0);
     entries = λ p c hp hc. record {
-      is = inl (at p c hp hc);
+      is = λ is_some. absurd (is_some (at p c hp hc));
       only = λ i h u v. absurd (omega (arith, out i h));
     };
   }

@@ -1,8 +1,8 @@
 -- The meeting that a party has in a round is found, and is the entry of its row. Assumes nothing.
 use Rattle.std.proofs.Common.{◌≡◌, ℕ, ◌<◌, ◌≤◌, true, ◌&&◌, eqb, ltb, ◌⊎◌, sym, ◌∙◌, inl, inr, ⊎_elim, arith}
-use Rattle.std.proofs.lemmas.Bool.{cases_lt, and_parts, and_from, eq-eqb, eqb-true, both_ways, lt-ltb, le-ltb, cond-true, cond-false}
+use Rattle.std.proofs.lemmas.Bool.{cases_eq, cases_lt, and_parts, and_from, eq-eqb, eqb-true, both_ways, lt-ltb, le-ltb, cond-true, cond-false}
 use Rattle.fewest.specs.Plans.{none}
-use Rattle.chains.specs.Boards.{Entry}
+use Rattle.chains.specs.Rows.{Entry}
 use Rattle.chains.specs.Lowest.{lowest}
 use Rattle.chains.specs.Partial.{known, meeting_at}
 use Rattle.chains.proofs.Lowest.{lowest_of}
@@ -49,8 +49,10 @@ module _ (m : ℕ) (party round : ℕ → ℕ) (p c : ℕ) where
   entry_at y few e =
       ⊎_elim
       (λ nobody. ⊎_elim (λ past. nobody ∙ sym past) (λ below. absurd (let f = at_found few below in omega (arith, e.only _ below f.0 f.1))) at_cases)
-      (λ some. ⊎_elim
+      (λ is_some.
+      let some = e.is is_some in
+      ⊎_elim
       (λ past. absurd (at_none past few y some.0 some.1 some.2))
       (λ below. let f = at_found few below in sym (e.only _ below f.0 f.1))
       at_cases)
-      e.is
+      (cases_eq y none)

@@ -4,7 +4,7 @@ use Rattle.std.proofs.lemmas.Bool.{cond-false, le-ltb, ltb-false}
 use Rattle.meetings.specs.Lists.{Contents}
 use Rattle.meetings.specs.Refusals.{accepted}
 use Rattle.meetings.proofs.Outcomes.{unless_refused}
-use Rattle.chains.specs.declared.board.Shape.{Shape}
+use Rattle.chains.specs.declared.shapes.Shape.{Shape}
 use Rattle.chains.specs.Shapes.{width, shape_of, lent_shape}
 
 pub rows_fit : (n long : ℕ) → n * width n long ≤ long

@@ -3,7 +3,7 @@ use Rattle.std.proofs.Common.{◌≡◌, ℕ, ◌+◌, ◌-◌, ◌*◌, ◌/◌
 use Rattle.std.proofs.lemmas.List.{same_lists, get_or-drop, get_or_default}
 use Rattle.std.proofs.lemmas.Bool.{cases_lt, cases_eq}
 use Rattle.fewest.specs.Plans.{none}
-use Rattle.chains.specs.Boards.{Rows, Beyond}
+use Rattle.chains.specs.Rows.{Rows, Beyond}
 use Rattle.chains.specs.Statements.{OneBoard}
 use Rattle.chains.proofs.Entries.{entry_at}
 

@@ -7,7 +7,8 @@ use Rattle.std.proofs.lemmas.Bool.Decides.{nat_tests}
 use Rattle.meetings.specs.declared.numbers.Side.{Side}
 use Rattle.meetings.specs.declared.numbers.Side.TheVariants.{Groups, Stations}
 use Rattle.fewest.specs.Counting.{one_if}
-use Rattle.chains.specs.Chains.{Two, in_two, Sound, Beside, Closed, Linked, itself, next, swap, other_side, near, with_one, with_all, holds, walked}
+use Rattle.meetings.specs.Lists.{other_side}
+use Rattle.chains.specs.Chains.{Two, in_two, Sound, Beside, Closed, Linked, itself, next, swap, near, with_one, with_all, holds, walked}
 use Rattle.chains.specs.Statements.{in_part, PartOf, Parts}
 use Rattle.chains.proofs.Closing.{part_closes}
 use Rattle.chains.proofs.Members.{not_one, in_all, first_held, held_cases, append_cases, Fresh, unless, once_from_fresh, fresh_append}

@@ -1,10 +1,10 @@
 -- Rows stay the rows of the rounds where one entry is written as one meeting changes its round. Assumes nothing.
-use Rattle.std.proofs.Common.{◌≡◌, ℕ, ◌+◌, ◌*◌, ◌/◌, ◌%◌, ◌<◌, List, length, get_or, drop, set, sym, refl, ap, ◌∙◌, inl, inr, ⊎_elim, mul-le-mul_right, suc-mul, arith}
+use Rattle.std.proofs.Common.{◌≡◌, ℕ, ◌+◌, ◌*◌, ◌/◌, ◌%◌, ◌<◌, List, length, get_or, drop, set, sym, refl, ap, ◌∙◌, ⊎_elim, mul-le-mul_right, suc-mul, arith}
 use Rattle.std.proofs.lemmas.Nat.{div-mul-add, mod-mul-add}
 use Rattle.std.proofs.lemmas.List.{get_or-set_same, get_or-set_other, length-set, drop-set-lt}
 use Rattle.std.proofs.lemmas.Bool.{cases_eq}
 use Rattle.fewest.specs.Plans.{none}
-use Rattle.chains.specs.Boards.{Entry, Rows, Beyond}
+use Rattle.chains.specs.Rows.{Entry, Rows, Beyond}
 
 -- two places of the rows are the same only in the same row at the same round
 pub same_place : (w p c p' c' : ℕ) → c < w → c' < w → p * w + c ≡ p' * w + c' → (p ≡ p') × (c ≡ c')
@@ -41,9 +41,9 @@ module _ (m : ℕ) (party rnd rnd' : ℕ → ℕ) (i : ℕ) (else : (j : ℕ) �
   pub rows_placed : (n w : ℕ) (rows rows' : List ℕ) (c : ℕ) → Rows m party rnd n w rows → i < m → rnd i ≡ none → rnd' i ≡ c → c < w → ((j : ℕ) → j < m → rnd j ≡ c → party j ≡ party i → ⊥) → rows' ≡ set rows (party i * w + c) i → Rows m party rnd' n w rows'
   rows_placed n w rows rows' c r h out here within vacant e =
       one_entry m party rnd rnd' n w rows rows' (party i) c i r (r.parties i h) within e
-      (record { is = inr (h, refl, here); only = λ j hj u v. ⊎_elim (λ same. same) (λ other. absurd (vacant j hj (sym (else j other) ∙ v) u)) (cases_eq j i) })
+      (record { is = λ _. (h, refl, here); only = λ j hj u v. ⊎_elim (λ same. same) (λ other. absurd (vacant j hj (sym (else j other) ∙ v) u)) (cases_eq j i) })
       (λ p' c' x hc apart old. record {
-        is = ⊎_elim (λ nobody. inl nobody) (λ some. inr (some.0, some.1, else x (λ same. omega (arith, r.narrow, ap rnd same, some.2)) ∙ some.2)) old.is;
+        is = λ is_some. let some = old.is is_some in (some.0, some.1, else x (λ same. omega (arith, r.narrow, ap rnd same, some.2)) ∙ some.2);
         only = λ j hj u v. ⊎_elim (λ same. absurd (apart (sym u ∙ ap party same, sym v ∙ ap rnd' same ∙ here))) (λ other. old.only j hj u (sym (else j other) ∙ v)) (cases_eq j i);
       })
 
@@ -52,9 +52,9 @@ module _ (m : ℕ) (party rnd rnd' : ℕ → ℕ) (i : ℕ) (else : (j : ℕ) �
   rows_taken n w rows rows' c r h here out within e =
       let was = r.entries (party i) c (r.parties i h) within in
       one_entry m party rnd rnd' n w rows rows' (party i) c none r (r.parties i h) within e
-      (record { is = inl refl; only = λ j hj u v. ⊎_elim (λ same. absurd (omega (arith, r.narrow, ap rnd' same))) (λ other. absurd (other (was.only j hj u (sym (else j other) ∙ v) ∙ sym (was.only i h refl here)))) (cases_eq j i) })
+      (record { is = λ is_some. absurd (is_some refl); only = λ j hj u v. ⊎_elim (λ same. absurd (omega (arith, r.narrow, ap rnd' same))) (λ other. absurd (other (was.only j hj u (sym (else j other) ∙ v) ∙ sym (was.only i h refl here)))) (cases_eq j i) })
       (λ p' c' x hc apart old. record {
-        is = ⊎_elim (λ nobody. inl nobody) (λ some. inr (some.0, some.1, else x (λ same. apart (sym some.1 ∙ ap party same, sym some.2 ∙ ap rnd same ∙ here)) ∙ some.2)) old.is;
+        is = λ is_some. let some = old.is is_some in (some.0, some.1, else x (λ same. apart (sym some.1 ∙ ap party same, sym some.2 ∙ ap rnd same ∙ here)) ∙ some.2);
         only = λ j hj u v. ⊎_elim (λ same. absurd (omega (arith, r.narrow, ap rnd' same))) (λ other. old.only j hj u (sym (else j other) ∙ v)) (cases_eq j i);
       })
 

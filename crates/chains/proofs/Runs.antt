@@ -6,7 +6,8 @@ use Rattle.std.proofs.lemmas.Bool.{cases_lt}
 use Rattle.std.proofs.lemmas.Bool.Decides.{nat_tests}
 use Rattle.meetings.specs.declared.numbers.Side.{Side}
 use Rattle.meetings.specs.declared.numbers.Side.TheVariants.{Groups, Stations}
-use Rattle.chains.specs.Chains.{Two, Sound, Free, swap, other_side, near, with_one, with_all, holds, walked, chain}
+use Rattle.meetings.specs.Lists.{other_side}
+use Rattle.chains.specs.Chains.{Two, Sound, Free, swap, near, with_one, with_all, holds, walked, chain}
 use Rattle.chains.specs.Statements.{ChainWhole, NeverComes}
 use Rattle.chains.proofs.Members.{not_one, Fresh, unless, none_held, held_cases}
 use Rattle.chains.proofs.Near.{near_found}

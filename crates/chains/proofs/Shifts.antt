@@ -6,8 +6,8 @@ use Rattle.std.proofs.lemmas.Bool.{cases_eq}
 use Rattle.std.proofs.lemmas.Bool.Decides.{nat_tests}
 use Rattle.meetings.specs.declared.numbers.Meeting.{Meeting}
 use Rattle.fewest.specs.Plans.{none}
-use Rattle.chains.specs.declared.board.Shape.{Shape}
-use Rattle.chains.specs.Boards.{FreeFor, WithinRows}
+use Rattle.chains.specs.declared.shapes.Shape.{Shape}
+use Rattle.chains.specs.Rows.{FreeFor, WithinRows}
 use Rattle.chains.specs.Chains.{holds, with_one}
 use Rattle.chains.specs.Exchanges.{Movable, shifted}
 use Rattle.chains.specs.Partial.{round_of}

@@ -8,8 +8,8 @@ use Rattle.meetings.specs.declared.numbers.Meeting.{Meeting}
 use Rattle.meetings.specs.declared.numbers.Side.{Side}
 use Rattle.meetings.specs.declared.numbers.Side.TheVariants.{Groups, Stations}
 use Rattle.fewest.specs.Plans.{none}
-use Rattle.chains.specs.declared.board.Shape.{Shape}
-use Rattle.chains.specs.Boards.{Holds, WithinRows}
+use Rattle.chains.specs.declared.shapes.Shape.{Shape}
+use Rattle.chains.specs.Rows.{Holds, WithinRows}
 use Rattle.chains.specs.Chains.{two, in_two, holds}
 use Rattle.chains.specs.Exchanges.{Exchangeable, Movable, exchanged, shifted}
 use Rattle.chains.specs.Partial.{round_of, party_of}

@@ -3,7 +3,8 @@
 use Rattle.std.proofs.Common.{◌≡◌, ℕ, zero, suc, ◌+◌, ◌<◌, ◌≤◌, Bool, true, false, cond, ltb, ◌⊎◌, List, [], ◌∷◌, sym, refl, ap, ◌∙◌, inl, inr, ⊎_elim, arith}
 use Rattle.std.proofs.lemmas.Bool.{both_ways, cases_Bool, cases_lt, cond_both, ltb-true, ltb-false}
 use Rattle.meetings.specs.declared.numbers.Side.{Side}
-use Rattle.chains.specs.Chains.{Two, other_side, near, with_one, left_of, walk, walked}
+use Rattle.meetings.specs.Lists.{other_side}
+use Rattle.chains.specs.Chains.{Two, near, with_one, left_of, walk, walked}
 use Rattle.chains.specs.Statements.{Ends}
 use Rattle.chains.proofs.Members.{left_with_one}
 

@@ -1,89 +1,51 @@
--- The board: what the three lent slices hold. Assumes nothing.
-use Rattle.std.specs.Prelude.{◌≡◌, ℕ, ◌+◌, ◌*◌, ◌<◌, ◌≤◌, ◌⊎◌, List, length, drop, slice_index, slice_set}
+-- The board, and what a change leaves on it. Assumes nothing.
+use Rattle.std.specs.Prelude.{◌≡◌, ℕ, ◌+◌, ◌*◌, ◌<◌, true, List, length}
 use Rattle.meetings.specs.declared.numbers.Meeting.{Meeting}
 use Rattle.meetings.specs.declared.numbers.Side.{Side}
 use Rattle.meetings.specs.declared.numbers.Side.TheVariants.{Groups, Stations}
-use Rattle.meetings.specs.Lists.{parties}
-use Rattle.fewest.specs.Plans.{none}
 use Rattle.chains.specs.declared.board.Board.{Board}
-use Rattle.chains.specs.declared.board.Shape.{Shape}
 use Rattle.chains.specs.declared.neighbours.TwoRounds.{TwoRounds}
-use Rattle.chains.specs.Chains.{Two, two}
-use Rattle.chains.specs.Partial.{Vacant, round_of, party_of, meeting_of}
+use Rattle.chains.specs.Chains.{Two, two, in_two}
+use Rattle.chains.specs.Partial.{party_of}
+use Rattle.chains.specs.Rows.{WithinRows, Beyond}
 
--- y is what stands in the row of party p at round c: the one meeting that it has there, or none
-pub record Entry (m : ℕ) (party round : ℕ → ℕ) (p c y : ℕ) : Type 0 where
-  pub is : (y ≡ none) ⊎ ((y < m) × (party y ≡ p) × (round y ≡ c))
-  pub only : (i : ℕ) → i < m → party i ≡ p → round i ≡ c → i ≡ y
+-- the meetings of a board and their rounds
+abbrev pub meetings_on : Board → List Meeting
+meetings_on d = d.meetings.now
 
--- the rows of one side: n rows of width w, one after the other, with an entry for each round
-pub record Rows (m : ℕ) (party round : ℕ → ℕ) (n w : ℕ) (rows : List ℕ) : Type 0 where
-  pub narrow : w ≤ none
-  pub parties : (i : ℕ) → i < m → party i < n
-  pub room : (p : ℕ) → p < n → p * w + w ≤ length rows
-  pub entries : (p c : ℕ) → p < n → c < w → Entry m party round p c (slice_index rows (p * w + c))
-
--- a round for which all rows have an entry
-abbrev pub WithinRows : Shape → ℕ → Type 0
-WithinRows z c = (c < z.group_width) × (c < z.station_width)
-
--- the board: what the three slices hold where the meetings have the rounds xs
-pub record Holds (ms : List Meeting) (z : Shape) (xs gs ss : List ℕ) : Type 0 where
-  pub few : length ms ≤ none
-  pub each : length xs ≡ length ms
-  pub round : (i : ℕ) → i < length ms → (round_of xs i ≡ none) ⊎ WithinRows z (round_of xs i)
-  pub groups : Rows (length ms) (party_of ms Groups) (round_of xs) z.groups z.group_width gs
-  pub stations : Rows (length ms) (party_of ms Stations) (round_of xs) z.stations z.station_width ss
-
--- the rounds of the meetings on a board, and two rounds that are looked at on it
 abbrev pub rounds_on : Board → List ℕ
 rounds_on d = d.rounds.now
 
-abbrev pub two_on : List Meeting → Board → TwoRounds → Two
-two_on ms d r = two ms (rounds_on d) r.a.0 r.b.0
+-- two rounds that are looked at on a board
+abbrev pub two_on : Board → TwoRounds → Two
+two_on d r = two (meetings_on d) (rounds_on d) r.a.0 r.b.0
 
-abbrev pub On : List Meeting → Shape → Board → Type 0
-On ms z d = Holds ms z d.rounds.now d.group_rows.now d.station_rows.now
+-- meeting i is in one of two rounds, for which all rows have an entry
+pub record InTwo (d : Board) (r : TwoRounds) (i : ℕ) : Type 0 where
+  pub a : WithinRows d.shape r.a.0
+  pub b : WithinRows d.shape r.b.0
+  pub here : i < length (meetings_on d)
+  pub there : in_two (two_on d r) i ≡ true
 
--- the rows of a side of the board, how wide they are, and how many
+-- the rows of a side of the board
 abbrev pub rows_of : Side → Board → List ℕ
 rows_of Groups d = d.group_rows.now
 rows_of Stations d = d.station_rows.now
 
-abbrev pub width_of : Side → Shape → ℕ
-width_of Groups z = z.group_width
-width_of Stations z = z.station_width
+-- the place of an entry in the rows of a side: that of the party of meeting i at round c
+abbrev pub group_place : Board → ℕ → ℕ → ℕ
+group_place d i c = party_of (meetings_on d) Groups i * d.shape.group_width + c
 
-abbrev pub parties_of : Side → Shape → ℕ
-parties_of s z = parties s z.groups z.stations
+abbrev pub station_place : Board → ℕ → ℕ → ℕ
+station_place d i c = party_of (meetings_on d) Stations i * d.shape.station_width + c
 
--- a party's row: for each round the meeting that it has there
-pub record RowOf (ms : List Meeting) (xs : List ℕ) (s : Side) (p : ℕ) (row : List ℕ) : Type 0 where
-  pub at : (c : ℕ) → c < length row → slice_index row c ≡ meeting_of ms xs s p c
-
--- what lies beyond the rows in use is not written
-abbrev pub Beyond : ℕ → ℕ → List ℕ → List ℕ → Type 0
-Beyond n w rows rows' = (length rows' ≡ length rows) × (drop (n * w) rows' ≡ drop (n * w) rows)
-
--- the board d becomes e, the same slices: y is written at round c in the rows of both parties of a meeting
-pub record Written (z : Shape) (d e : Board) (m : Meeting) (c y : ℕ) : Type 0 where
-  pub rounds : rounds_on e ≡ rounds_on d
-  pub groups : rows_of Groups e ≡ slice_set (rows_of Groups d) (m.group.0 * z.group_width + c) y
-  pub stations : rows_of Stations e ≡ slice_set (rows_of Stations d) (m.station.0 * z.station_width + c) y
+-- the board d becomes e, in the same slices: the meetings have the rounds xs now
+pub record Becomes (d e : Board) (xs : List ℕ) : Type 0 where
+  pub rounds : rounds_on e ≡ xs
+  pub meetings : meetings_on e ≡ meetings_on d
+  pub shape : e.shape ≡ d.shape
+  pub group_rest : Beyond d.shape.groups d.shape.group_width d.group_rows.now e.group_rows.now
+  pub station_rest : Beyond d.shape.stations d.shape.station_width d.station_rows.now e.station_rows.now
   pub same_rounds : d.rounds.ghost_name ≡ e.rounds.ghost_name
   pub same_groups : d.group_rows.ghost_name ≡ e.group_rows.ghost_name
   pub same_stations : d.station_rows.ghost_name ≡ e.station_rows.ghost_name
-
--- the board d becomes e, the same slices: the meetings have the rounds xs now, and the rows are those of xs
-pub record Becomes (ms : List Meeting) (z : Shape) (d e : Board) (xs : List ℕ) : Type 0 where
-  pub rounds : e.rounds.now ≡ xs
-  pub board : On ms z e
-  pub group_rest : Beyond z.groups z.group_width d.group_rows.now e.group_rows.now
-  pub station_rest : Beyond z.stations z.station_width d.station_rows.now e.station_rows.now
-  pub same_rounds : d.rounds.ghost_name ≡ e.rounds.ghost_name
-  pub same_groups : d.group_rows.ghost_name ≡ e.group_rows.ghost_name
-  pub same_stations : d.station_rows.ghost_name ≡ e.station_rows.ghost_name
-
--- meeting i may have round c: that is none, or its group and its station are free in c
-abbrev pub FreeFor : List Meeting → Shape → List ℕ → ℕ → ℕ → Type 0
-FreeFor ms z xs i c = (c ≡ none) ⊎ (WithinRows z c × ((s : Side) → Vacant ms xs s (party_of ms s i) c))

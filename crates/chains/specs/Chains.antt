@@ -3,6 +3,7 @@ use Rattle.std.specs.Prelude.{◌≡◌, ℕ, zero, suc, ◌<◌, ◌≤◌, Boo
 use Rattle.meetings.specs.declared.numbers.Meeting.{Meeting}
 use Rattle.meetings.specs.declared.numbers.Side.{Side}
 use Rattle.meetings.specs.declared.numbers.Side.TheVariants.{Groups, Stations}
+use Rattle.meetings.specs.Lists.{other_side}
 use Rattle.fewest.specs.Counting.{count}
 use Rattle.fewest.specs.Plans.{none}
 use Rattle.chains.specs.Partial.{round_of, party_of, VacantIn, meeting_at}
@@ -51,10 +52,6 @@ Free t s p c = VacantIn t.many (t.party s) t.round p c
 -- the other of two rounds; any third stays
 abbrev pub swap : ℕ → ℕ → ℕ → ℕ
 swap a b c = cond (c == a) b (cond (c == b) a c)
-
-abbrev pub other_side : Side → Side
-other_side Groups = Stations
-other_side Stations = Groups
 
 -- the meeting that the group or the station of j has in the other of the two rounds, none if it has none there
 abbrev pub near : Two → Side → ℕ → ℕ

@@ -5,8 +5,8 @@ use Rattle.meetings.specs.declared.numbers.Meeting.{Meeting}
 use Rattle.meetings.specs.declared.numbers.Side.{Side}
 use Rattle.fewest.specs.Plans.{none}
 use Rattle.chains.specs.Partial.{round_of, party_of}
-use Rattle.chains.specs.declared.board.Shape.{Shape}
-use Rattle.chains.specs.Boards.{WithinRows}
+use Rattle.chains.specs.declared.shapes.Shape.{Shape}
+use Rattle.chains.specs.Rows.{WithinRows}
 use Rattle.chains.specs.Chains.{two, in_two, swap, holds, Closed}
 
 -- the members that are in a get b, those in b get a, all others keep their round

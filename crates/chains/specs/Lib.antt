@@ -2,7 +2,11 @@ pub mod Boards
 pub mod Chains
 pub mod Exchanges
 pub mod Finding
+pub mod Given
 pub mod Lowest
+pub mod Marked
 pub mod Partial
+pub mod Rows
 pub mod Shapes
+pub mod Starting
 pub mod Statements

@@ -1,10 +1,14 @@
 -- Meetings of which some have a round: the partial plan. Assumes nothing.
-use Rattle.std.specs.Prelude.{◌≡◌, ℕ, ◌<◌, cond, ◌&&◌, ◌⊎◌, List, length, ◌==◌, ◌≢◌, nat_lt, slice_index_or}
+use Rattle.std.specs.Prelude.{◌≡◌, ℕ, ◌<◌, cond, ◌&&◌, ◌⊎◌, Option, MatchOption, List, length, ◌==◌, ◌≢◌, nat_lt, slice_index_or}
 use Rattle.meetings.specs.declared.numbers.Meeting.{Meeting}
 use Rattle.meetings.specs.declared.numbers.Side.{Side}
 use Rattle.meetings.specs.Lists.{party, nobody}
 use Rattle.fewest.specs.Plans.{none, Apart}
 use Rattle.chains.specs.Lowest.{lowest}
+
+-- an answer that gives the number x, or nothing where x is the number that stands for that
+abbrev pub Unless : {T : Type 0} → ℕ → (T → ℕ) → Option T → ℕ → Type 0
+Unless out number o x = MatchOption o (x ≡ out) (λ v. (number v ≡ x) × (x ≢ out))
 
 -- the round of a meeting, none if it has none
 abbrev pub round_of : List ℕ → ℕ → ℕ

@@ -1,14 +1,19 @@
 -- How wide the rows of lent slices are, and when these are too short. Assumes nothing.
 use Rattle.std.specs.Prelude.{◌≡◌, ℕ, ◌*◌, ◌/◌, ◌≤◌, min, cond, List, length, nat_lt}
 use Rattle.meetings.specs.declared.numbers.Meeting.{Meeting}
+use Rattle.meetings.specs.declared.refusal.Lent.{Lent}
 use Rattle.meetings.specs.Lists.{Contents, Exist}
-use Rattle.meetings.specs.Refusals.{Outcome, accepted, refused}
+use Rattle.meetings.specs.Refusals.{Outcome, accepted, refused, place_of_lent}
 use Rattle.fewest.specs.Plans.{none}
-use Rattle.chains.specs.declared.board.Shape.{Shape}
+use Rattle.chains.specs.declared.shapes.Shape.{Shape}
 
 -- a slice has one row for each party, and each is as wide as there is room; a round is below 65,535
 abbrev pub width : ℕ → ℕ → ℕ
 width n long = min (long / n) none
+
+-- the width of such rows where they have a place for each of r rounds; else the slice is too short
+abbrev pub lent_width : ℕ → ℕ → ℕ → Lent → Outcome ℕ
+lent_width n long r which = cond (nat_lt (width n long) r) (refused 5 (place_of_lent which)) (accepted (width n long))
 
 abbrev pub shape_of : Contents → ℕ → ℕ → Shape
 shape_of d long_groups long_stations = record {

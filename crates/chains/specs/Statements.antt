@@ -4,8 +4,8 @@ use Rattle.meetings.specs.declared.numbers.Meeting.{Meeting}
 use Rattle.meetings.specs.declared.numbers.Side.{Side}
 use Rattle.meetings.specs.declared.numbers.Side.TheVariants.{Groups, Stations}
 use Rattle.fewest.specs.Plans.{none, in_round}
-use Rattle.chains.specs.declared.board.Shape.{Shape}
-use Rattle.chains.specs.Boards.{Holds, Beyond}
+use Rattle.chains.specs.declared.shapes.Shape.{Shape}
+use Rattle.chains.specs.Rows.{Holds, Beyond}
 use Rattle.chains.specs.Partial.{Partial, round_of}
 use Rattle.chains.specs.Chains.{Two, two, in_two, Sound, Closed, Linked, Free, with_all, holds, left_of, walk, walked, chain, part}
 use Rattle.chains.specs.Exchanges.{exchanged, among}

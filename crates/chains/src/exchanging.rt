@@ -1,57 +1,61 @@
 // Exchanging two rounds on a set of meetings.
-ghost use Rattle.std.specs.Prelude.{◌≡◌, ◌<◌, ◌⊎◌, length, slice_set};
-ghost use Rattle.fewest.specs.Plans.{none};
-ghost use Rattle.chains.specs.Boards.{On, Becomes, FreeFor, WithinRows, rounds_on};
+ghost use Rattle.std.specs.Prelude.{◌≡◌, ◌<◌, ◌↔◌, IsTrue, length, slice_set};
+ghost use Rattle.chains.specs.Boards.{Becomes, meetings_on, rounds_on};
 ghost use Rattle.chains.specs.Exchanges.{Exchangeable, Movable, exchanged, shifted};
+ghost use Rattle.chains.specs.Given.{Proper, number_of};
+ghost use Rattle.chains.specs.Partial.{round_of};
+ghost use Rattle.chains.specs.Rows.{FreeFor};
 
-use crate::board::{Board, NONE, Shape};
+use crate::board::Board;
 use crate::neighbours::TwoRounds;
-use meetings::{Meeting, MeetingId, Round};
+use meetings::{MeetingId, Round};
 
 impl Board<'_> {
     // Gives a meeting another round, or none: in this round nobody else has its group or its station.
-    fn give(&mut self, meetings: &[Meeting], shape: Shape, meeting: MeetingId, round: u16)
-        requires board { On meetings.now shape self.old }
-        requires here { meeting.0 < length meetings.now }
-        requires free { FreeFor meetings.now shape (rounds_on self.old) meeting.0 round }
-        ensures { Becomes meetings.now shape self.old self.new (slice_set (rounds_on self.old) meeting.0 round) }
+    fn give(&mut self, meeting: MeetingId, round: Option<Round>)
+        requires here { meeting.0 < length (meetings_on self.old) }
+        requires proper { Proper self.old.shape round }
+        requires free { FreeFor (meetings_on self.old) self.old.shape (rounds_on self.old) meeting.0 (number_of round) }
+        ensures { Becomes self.old self.new (slice_set (rounds_on self.old) meeting.0 (number_of round)) }
     {
-        self.take_out(meetings, shape, meeting);
-        if round != NONE {
-            self.place(meetings, shape, meeting, Round(round));
+        self.take_out(meeting);
+        if let Some(round) = round {
+            self.place(meeting, round);
         }
     }
 
+    // Whether a meeting has this round, or none.
+    fn is_in(&self, meeting: MeetingId, round: Option<Round>) -> bool
+        requires here { meeting.0 < length (meetings_on self.now) }
+        requires proper { Proper self.now.shape round }
+        ensures { IsTrue result ↔ (round_of (rounds_on self.now) meeting.0 ≡ number_of round) }
+    {
+        self.round_of(meeting) == round
+    }
+
     // Gives each member that is in one round another; either of the two may be none.
-    fn shift(&mut self, meetings: &[Meeting], shape: Shape, members: &[u16], from: u16, to: u16)
-        requires board { On meetings.now shape self.old }
-        requires movable { Movable meetings.now (rounds_on self.old) members.now from to }
-        requires within { (to ≡ none) ⊎ WithinRows shape to }
-        ensures { Becomes meetings.now shape self.old self.new (shifted from to members.now (rounds_on self.old)) }
+    fn shift(&mut self, members: &[u16], from: Option<Round>, to: Option<Round>)
+        requires from { Proper self.old.shape from }
+        requires to { Proper self.old.shape to }
+        requires movable { Movable (meetings_on self.old) (rounds_on self.old) members.now (number_of from) (number_of to) }
+        ensures { Becomes self.old self.new (shifted (number_of from) (number_of to) members.now (rounds_on self.old)) }
     {
         for member in members {
             let meeting = MeetingId(*member);
-            if self.round_of(meeting).0 == from {
-                self.give(meetings, shape, meeting, to);
+            if self.is_in(meeting, from) {
+                self.give(meeting, to);
             }
         }
     }
 
     // Exchanges two rounds on a closed set of meetings of these rounds. At each moment nobody is at two meetings in a round: the
     // members in the first go out, those in the second go to the first, and those that are out go to the second.
-    pub fn exchange(
-        &mut self,
-        meetings: &[Meeting],
-        shape: Shape,
-        rounds: TwoRounds,
-        members: &[u16],
-    )
-        requires board { On meetings.now shape self.old }
-        requires closed { Exchangeable meetings.now shape (rounds_on self.old) members.now rounds.a.0 rounds.b.0 }
-        ensures { Becomes meetings.now shape self.old self.new (exchanged rounds.a.0 rounds.b.0 members.now (rounds_on self.old)) }
+    pub fn exchange(&mut self, rounds: TwoRounds, members: &[u16])
+        requires closed { Exchangeable (meetings_on self.old) self.old.shape (rounds_on self.old) members.now rounds.a.0 rounds.b.0 }
+        ensures { Becomes self.old self.new (exchanged rounds.a.0 rounds.b.0 members.now (rounds_on self.old)) }
     {
-        self.shift(meetings, shape, members, rounds.a.0, NONE);
-        self.shift(meetings, shape, members, rounds.b.0, rounds.a.0);
-        self.shift(meetings, shape, members, NONE, rounds.b.0);
+        self.shift(members, Some(rounds.a), None);
+        self.shift(members, Some(rounds.b), Some(rounds.a));
+        self.shift(members, None, Some(rounds.b));
     }
 }

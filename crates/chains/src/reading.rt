@@ -1,37 +1,50 @@
 // Reading the board.
-ghost use Rattle.std.specs.Prelude.{◌≡◌, ◌+◌, ◌*◌, ◌<◌, ◌≤◌, List, length, take, drop};
-ghost use Rattle.chains.specs.Boards.{On, RowOf, rows_of, width_of, parties_of, rounds_on};
-ghost use Rattle.chains.specs.Partial.{round_of};
+ghost use Rattle.std.specs.Prelude.{◌≡◌, ◌+◌, ◌*◌, ◌<◌, ◌≤◌, length, take, drop};
+ghost use Rattle.fewest.specs.Plans.{none};
+ghost use Rattle.chains.specs.Boards.{meetings_on, rounds_on, rows_of};
+ghost use Rattle.chains.specs.Partial.{Unless, meeting_of, round_of};
+ghost use Rattle.chains.specs.Rows.{RowOf, parties_of, width_of};
 
-use crate::board::{Board, Shape};
-use meetings::{Meeting, MeetingId, Round, Side};
+use crate::board::{Board, NONE};
+use meetings::{MeetingId, Round, Side};
+
+// What an entry of a lent slice says.
+fn unless_none(entry: u16) -> Option<u16>
+    ensures { Unless none (λ x. x) result entry }
+{
+    if entry == NONE { None } else { Some(entry) }
+}
 
 impl Board<'_> {
-    // The round of a meeting, `NONE` if it has none.
-    pub fn round_of(&self, meeting: MeetingId) -> Round
+    // The round of a meeting, if it has one.
+    pub fn round_of(&self, meeting: MeetingId) -> Option<Round>
         requires here { meeting.0 < length (rounds_on self.now) }
-        ensures { result.0 ≡ round_of (rounds_on self.now) meeting.0 }
+        ensures { Unless none (λ c. c.0) result (round_of (rounds_on self.now) meeting.0) }
     {
-        Round(self.rounds[meeting.0 as usize])
+        unless_none(self.rounds[meeting.0 as usize]).map(Round)
+    }
+
+    // The meeting that a group or a station has in a round, if it has one there.
+    pub fn met(&self, side: Side, party: u16, round: Round) -> Option<MeetingId>
+        requires party { party < parties_of side self.now.shape }
+        requires within { round.0 < width_of side self.now.shape }
+        ensures { Unless none (λ i. i.0) result (meeting_of (meetings_on self.now) (rounds_on self.now) side party round.0) }
+    {
+        let row = self.row(side, party);
+        unless_none(row[round.0 as usize]).map(MeetingId)
     }
 
     // The row of a group or a station: the meeting that it has in each round, `NONE` where it has none.
-    pub fn row(&self, shape: Shape, side: Side, party: u16) -> &[u16]
-        requires room { party * width_of side shape + width_of side shape ≤ length (rows_of side self.now) }
-        ensures held { result.now ≡ take (width_of side shape) (drop (party * width_of side shape) (rows_of side self.now)) }
-        ensures long { length result.now ≡ width_of side shape }
-        ensures of_board { (ms : List Meeting) → On ms shape self.now → party < parties_of side shape → RowOf ms (rounds_on self.now) side party result.now }
-    {
-        self.row_held(shape, side, party)
-    }
-
-    fn row_held(&self, shape: Shape, side: Side, party: u16) -> &[u16]
-        requires room { party * width_of side shape + width_of side shape ≤ length (rows_of side self.now) }
-        ensures { result.now ≡ take (width_of side shape) (drop (party * width_of side shape) (rows_of side self.now)) }
+    #[tactic(auto, using(crate::proofs::RowsRead::row_of_board))]
+    pub fn row(&self, side: Side, party: u16) -> &[u16]
+        requires room { party * width_of side self.now.shape + width_of side self.now.shape ≤ length (rows_of side self.now) }
+        ensures held { result.now ≡ take (width_of side self.now.shape) (drop (party * width_of side self.now.shape) (rows_of side self.now)) }
+        ensures long { length result.now ≡ width_of side self.now.shape }
+        ensures of_board { party < parties_of side self.now.shape → RowOf (meetings_on self.now) (rounds_on self.now) side party result.now }
     {
         match side {
-            Side::Groups => row_in(self.group_rows, shape.group_width, party),
-            Side::Stations => row_in(self.station_rows, shape.station_width, party),
+            Side::Groups => row_in(self.group_rows, self.shape.group_width, party),
+            Side::Stations => row_in(self.station_rows, self.shape.station_width, party),
         }
     }
 }

@@ -2,18 +2,30 @@
 ghost use Rattle.std.specs.Prelude.{◌≡◌, ◌≤◌};
 ghost use Rattle.meetings.specs.Held.{contents};
 ghost use Rattle.meetings.specs.Refusals.{outcome};
-ghost use Rattle.chains.specs.declared.board.Shape.{Shape};
-ghost use Rattle.chains.specs.Shapes.{lent_shape, width};
+ghost use Rattle.chains.specs.Shapes.{lent_shape, lent_width};
 
-use crate::board::{NONE, Shape};
+use crate::board::NONE;
 use meetings::{Lent, MeetingList, Refusal};
 
-// How long each row is where a slice of this length has one for each party.
-fn row_width(long: usize, parties: u16) -> u16
+// How many groups and stations there are, and how long the row of each is.
+#[derive(Clone, Copy)]
+pub struct Shape {
+    pub(crate) groups: u16,
+    pub(crate) group_width: u16,
+    pub(crate) stations: u16,
+    pub(crate) station_width: u16,
+}
+
+// How long each row is where a slice of this length has one for each party; a row that is shorter than so many rounds is refused.
+fn row_width(long: usize, parties: u16, rounds: u16, which: Lent) -> Result<u16, Refusal>
     requires some { 1 ≤ parties }
-    ensures { result ≡ width parties long }
+    ensures { outcome (λ w. w) result ≡ lent_width parties long rounds which }
 {
-    (long / parties as usize).min(NONE as usize) as u16
+    let width = (long / parties as usize).min(NONE as usize) as u16;
+    if width < rounds {
+        return Err(Refusal::ShortSlice(which));
+    }
+    Ok(width)
 }
 
 impl Shape {
@@ -30,19 +42,11 @@ impl Shape {
         if long_rounds < list.meetings().len() {
             return Err(Refusal::ShortSlice(Lent::Rounds));
         }
-        let group_width = row_width(long_groups, list.groups());
-        if group_width < rounds {
-            return Err(Refusal::ShortSlice(Lent::GroupRows));
-        }
-        let station_width = row_width(long_stations, list.stations());
-        if station_width < rounds {
-            return Err(Refusal::ShortSlice(Lent::StationRows));
-        }
         Ok(Shape {
             groups: list.groups(),
-            group_width,
+            group_width: row_width(long_groups, list.groups(), rounds, Lent::GroupRows)?,
             stations: list.stations(),
-            station_width,
+            station_width: row_width(long_stations, list.stations(), rounds, Lent::StationRows)?,
         })
     }
 }

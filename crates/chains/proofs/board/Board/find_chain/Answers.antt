@@ -1,7 +1,7 @@
 -- The meeting is added, and its chain after it.
-use Rattle.chains.specs.Chains.{two}
+use Rattle.chains.specs.Boards.{two_on}
 use Rattle.chains.proofs.ChainTurns.{chain_found, finds_then}
 use Rattle.chains.proofs.board.Board.find_chain.Goals as goal
 
 pub returns : goal.returns
-returns c = finds_then _ _ _ _ _ _ c.add.ensures c.follow.ensures (chain_found (two c.args.meetings.now c.args.self.now.rounds.now c.args.rounds.a.0 c.args.rounds.b.0) _ _ c.args.meeting.0 c.add.ensures.list)
+returns c = finds_then _ _ _ _ _ _ c.add.ensures c.follow.ensures (chain_found (two_on c.args.self.now c.args.rounds) _ _ c.args.meeting.0 c.add.ensures.list)

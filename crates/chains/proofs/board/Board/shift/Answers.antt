@@ -1,41 +1,50 @@
 -- Each turn gives one member its other round, if it is in the first.
-use Rattle.std.proofs.Common.{get_or, sym, ◌∙◌, arith}
-use Rattle.chains.proofs.BoardKept.{becomes_same, becomes_then, becomes_also}
+use Rattle.std.proofs.Common.{◌<◌, false, get_or, length, sym, refl, ◌∙◌, arith}
+use Rattle.std.proofs.lemmas.Bool.{both_ways}
+use Rattle.chains.specs.Boards.{meetings_on, rounds_on}
+use Rattle.chains.specs.Given.{number_of}
+use Rattle.chains.proofs.BoardKept.{becomes_same, becomes_then, becomes_also, proper_cases}
 use Rattle.chains.proofs.Members.{place_held}
 use Rattle.chains.proofs.Shifts.{shifted_start, shifted_all, turn_free, turn_gives, turn_leaves}
 use Rattle.chains.proofs.board.Board.shift.Goals as goal
-use Rattle.chains.proofs.board.Board.shift.Goals.{then-round_of-from, else-round_of-from}
+use Rattle.chains.proofs.board.Board.shift.Goals.{then-is_in, else-is_in}
 
 pub loop-member-init : goal.loop-member-init
-loop-member-init c = becomes_same _ _ _ _ c.requires.board (shifted_start c.args.from c.args.to c.args.members.now c.args.self.now.rounds.now)
+loop-member-init c = becomes_same _ _ (shifted_start (number_of c.args.from) (number_of c.args.to) c.args.members.now c.args.self.now.rounds.now)
 
-pub round_of-requires : goal.round_of-requires
-round_of-requires c =
+pub is_in-requires : goal.is_in-requires
+is_in-requires c =
     let is = c.args.members.now in
     let t = c.loop-member.member-index in
-    let h = c.requires.movable.below (get_or is t 0) (place_held is t 0 c.loop-member-test.true) in
-    record { here = omega (arith, c.loop-member.invariant.board.each) }
+    let so_far = c.loop-member.invariant in
+    record { here = rw so_far.meetings (c.requires.movable.below (get_or is t 0) (place_held is t 0 c.loop-member-test.true)); proper = rw so_far.shape c.requires.from }
 
 pub give-requires : goal.give-requires
 give-requires c =
     let is = c.args.members.now in
     let t = c.loop-member.member-index in
+    let d = c.args.self.now in
+    let so_far = c.loop-member.invariant in
     record {
-      board = c.loop-member.invariant.board;
-      here = c.requires.movable.below (get_or is t 0) (place_held is t 0 c.loop-member-test.true);
-      free = turn_free c.args.from c.args.to t is c.args.self.now.rounds.now _ c.loop-member-test.true c.loop-member.invariant.rounds c.args.meetings.now c.args.shape c.requires.board.each c.requires.movable c.requires.within (sym c.round_of.ensures ∙ c.if-round_of-from.true);
+      here = rw so_far.meetings (c.requires.movable.below (get_or is t 0) (place_held is t 0 c.loop-member-test.true));
+      proper = rw so_far.shape c.requires.to;
+      free = rw (so_far.meetings, so_far.shape) (turn_free (number_of c.args.from) (number_of c.args.to) t is (rounds_on d) _ c.loop-member-test.true so_far.rounds (meetings_on d) d.shape d.held.each c.requires.movable (proper_cases d.shape c.args.to c.requires.to) (c.if-is_in.ensures.0 refl));
     }
 
 pub loop-member-preserved : goal.loop-member-preserved
 loop-member-preserved c =
     let is = c.args.members.now in
     let t = c.loop-member.member-index in
-    let h = c.requires.movable.below (get_or is t 0) (place_held is t 0 c.loop-member-test.true) in
-    let xs = c.args.self.now.rounds.now in
-    elim c.if-round_of-from.branch [
-      | then-round_of-from w ↦ rw w.self-is (becomes_then c.args.meetings.now c.args.shape _ _ _ _ _ _ c.loop-member.invariant w.give.ensures (turn_gives c.args.from c.args.to t is xs _ c.loop-member-test.true c.loop-member.invariant.rounds (omega (arith, c.requires.board.each)) (sym c.round_of.ensures ∙ w.if-round_of-from.true)))
-      | else-round_of-from w ↦ rw w.self-is (becomes_also c.args.meetings.now c.args.shape _ _ _ _ c.loop-member.invariant (sym c.loop-member.invariant.rounds ∙ turn_leaves c.args.from c.args.to t is xs _ c.loop-member-test.true c.loop-member.invariant.rounds (λ e. w.if-round_of-from.false (c.round_of.ensures ∙ e))))
+    let d = c.args.self.now in
+    let u = number_of c.args.from in
+    let v = number_of c.args.to in
+    let so_far = c.loop-member.invariant in
+    let here : get_or is t 0 < length (rounds_on d) = omega (arith, c.requires.movable.below (get_or is t 0) (place_held is t 0 c.loop-member-test.true), d.held.each) in
+    elim c.if-is_in.branch [
+      | then-is_in w ↦ rw w.self-is (becomes_then _ _ _ _ _ _ so_far w.give.ensures (turn_gives u v t is (rounds_on d) _ c.loop-member-test.true so_far.rounds here (w.if-is_in.ensures.0 refl)))
+      | else-is_in w ↦ rw w.self-is (becomes_also _ _ _ _ so_far (sym so_far.rounds ∙ turn_leaves u v t is (rounds_on d) _ c.loop-member-test.true so_far.rounds (λ e. both_ways false refl (w.if-is_in.ensures.1 e))))
     ]
 
 pub returns : goal.returns
-returns c = becomes_also c.args.meetings.now c.args.shape _ _ _ _ c.loop-member.invariant (shifted_all c.args.from c.args.to c.loop-member.member-index c.args.members.now c.args.self.now.rounds.now c.loop-member-test.false)
+returns c =
+    becomes_also _ _ _ _ c.loop-member.invariant (shifted_all (number_of c.args.from) (number_of c.args.to) c.loop-member.member-index c.args.members.now c.args.self.now.rounds.now c.loop-member-test.false)
