@@ -17,4 +17,5 @@ pub mod Runs
 pub mod Shifts
 pub mod Short
 pub mod ThreeShifts
+pub mod Unless
 pub mod Walks

@@ -1,17 +1,18 @@
 -- The chain that was found is the rule's, it can be exchanged, and then the meeting can be placed. Assumes nothing.
-use Rattle.std.proofs.Common.{◌≡◌, ℕ, ◌<◌, ◌≤◌, ltb, List, [], ◌++◌, length, sym, ap, ◌∙◌, arith}
-use Rattle.std.proofs.lemmas.Bool.{cond-false, le-ltb}
+use Rattle.std.proofs.Common.{◌≡◌, ℕ, ◌<◌, ◌≤◌, ◌&&◌, ltb, List, [], ◌++◌, length, set, sym, ap, ◌∙◌, arith}
+use Rattle.std.proofs.lemmas.Bool.{cond-false, cond-true, le-ltb, lt-ltb}
 use Rattle.meetings.specs.declared.numbers.Meeting.{Meeting}
 use Rattle.meetings.specs.declared.numbers.Side.{Side}
 use Rattle.meetings.specs.declared.numbers.Side.TheVariants.{Groups, Stations}
 use Rattle.fewest.specs.Plans.{none}
-use Rattle.chains.specs.declared.board.Shape.{Shape}
-use Rattle.chains.specs.Boards.{WithinRows}
+use Rattle.chains.specs.declared.shapes.Shape.{Shape}
+use Rattle.chains.specs.Rows.{WithinRows}
 use Rattle.chains.specs.Chains.{two, holds, chain}
 use Rattle.chains.specs.Exchanges.{Exchangeable, exchanged}
 use Rattle.chains.specs.Partial.{Vacant, party_of, round_of, meeting_of}
 use Rattle.chains.proofs.Exchange.{exchanged_none}
-use Rattle.placing.specs.Putting.{chain_for, common_free, own_free, put, put_by_chain}
+use Rattle.chains.proofs.Lowest.{lowest_of}
+use Rattle.placing.specs.Putting.{chain_for, common_free, free, own_free, placed, put, put_by_chain}
 use Rattle.placing.specs.Statements.{Opens, Ready}
 use Rattle.placing.proofs.PutOne.{chain_frees, common_frees}
 use Rattle.placing.proofs.Opens.{chain_opens}
@@ -34,9 +35,18 @@ module _ (ms : List Meeting) (xs : List ℕ) (i a b : ℕ) where
     then_out la lb out ys e = ap (λ l. round_of l i) e ∙ exchanged_none a b is xs none i (omega arith) la lb out
 
 module _ (n k r : ℕ) (ms : List Meeting) (xs : List ℕ) (i : ℕ) (ready : Ready n k r ms xs i) where
+  -- a search that finds something finds one of the rounds
+  pub common_below : (common_free r ms xs i ≡ r → ⊥) → common_free r ms xs i < r
+  common_below some = omega (arith, (lowest_of (λ c. free ms xs i Groups c && free ms xs i Stations c) r).most)
+
   -- a common free round that was found is vacant
   pub common_vacant : (c : ℕ) → c ≡ common_free r ms xs i → c < r → (s : Side) → Vacant ms xs s (party_of ms s i) c
   common_vacant c is below s j h e p = common_frees n k r ms xs i ready (omega arith) s j h (e ∙ is) p
+
+  -- with a common free round the rule puts in there
+  pub put_common_is : (c : ℕ) → c ≡ common_free r ms xs i → (common_free r ms xs i ≡ r → ⊥) → placed (set xs i c) 1 ≡ put r ms xs i
+  put_common_is c is some =
+      ap (λ x. placed (set xs i x) 1) is ∙ sym (cond-true (ltb (common_free r ms xs i) r) _ _ (lt-ltb _ _ (common_below some)))
 
   module _ (a b : ℕ) (none_common : r ≤ common_free r ms xs i) (is_a : a ≡ own_free r ms xs i Groups) (is_b : b ≡ own_free r ms xs i Stations) where
     -- the two rounds that were found, and their chain

@@ -7,7 +7,7 @@ use Rattle.meetings.specs.Held.{contents}
 use Rattle.meetings.specs.Refusals.{accepted}
 use Rattle.meetings.proofs.Holds.{proper}
 use Rattle.fewest.specs.Rounds.{busiest, fewest}
-use Rattle.chains.specs.declared.board.Shape.{Shape}
+use Rattle.chains.specs.declared.shapes.Shape.{Shape}
 use Rattle.chains.specs.Shapes.{lent_shape}
 use Rattle.chains.proofs.Fitting.{accepted_fits, rows_fit}
 use Rattle.placing.specs.Lent.{LentFor}

@@ -1,6 +1,7 @@
 pub mod AllTurns
 pub mod ByChain
 pub mod Entering
+pub mod Found
 pub mod FreeRounds
 pub mod LentEnough
 pub mod Opens

@@ -5,8 +5,8 @@ use Rattle.meetings.specs.declared.numbers.Side.{Side}
 use Rattle.meetings.specs.declared.numbers.Side.TheVariants.{Groups, Stations}
 use Rattle.fewest.specs.Plans.{none}
 use Rattle.chains.specs.declared.board.Board.{Board}
-use Rattle.chains.specs.declared.board.Shape.{Shape}
-use Rattle.chains.specs.Boards.{On, RowOf, parties_of, width_of}
+use Rattle.chains.specs.Boards.{meetings_on, rounds_on}
+use Rattle.chains.specs.Rows.{RowOf, parties_of, width_of}
 use Rattle.chains.specs.Lowest.{lowest}
 use Rattle.chains.specs.Partial.{party_of}
 use Rattle.chains.proofs.Lowest.{lowest_ext}
@@ -28,13 +28,13 @@ module _ (r : ℕ) (ms : List Meeting) (xs : List ℕ) (i : ℕ) where
       twice true = refl
       twice false = refl
 
-  -- the row of the meeting's party, as it was read off the board
-  pub own_read : (z : Shape) (d : Board) (s : Side) (p : ℕ) (row : List ℕ) → On ms z d → d.rounds.now ≡ xs → i < length ms → r ≤ z.group_width → r ≤ z.station_width → p ≡ party_of ms s i → length row ≡ width_of s z → (On ms z d → p < parties_of s z → RowOf ms d.rounds.now s p row) → (r ≤ length row) × RowOf ms xs s (party_of ms s i) row
-  own_read z d s p row b e h gw sw is long of = (
-    omega (arith, wide s),
-    rw (← e) (rw (← is) (of b (rw is ((side_rows ms z d s b).parties i h)))),
-  )
-    where
-      wide : (s : Side) → r ≤ width_of s z
-      wide Groups = gw
-      wide Stations = sw
+-- the row of a meeting's party, as it was read off the board
+pub own_read : (r : ℕ) (d : Board) (i : ℕ) (s : Side) (p : ℕ) (row : List ℕ) → i < length (meetings_on d) → r ≤ d.shape.group_width → r ≤ d.shape.station_width → p ≡ party_of (meetings_on d) s i → length row ≡ width_of s d.shape → (p < parties_of s d.shape → RowOf (meetings_on d) (rounds_on d) s p row) → (r ≤ length row) × RowOf (meetings_on d) (rounds_on d) s (party_of (meetings_on d) s i) row
+own_read r d i s p row h gw sw is long of = (
+  omega (arith, wide s),
+  rw (← is) (of (rw is ((side_rows d s).parties i h))),
+)
+  where
+    wide : (s : Side) → r ≤ width_of s d.shape
+    wide Groups = gw
+    wide Stations = sw

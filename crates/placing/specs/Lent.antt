@@ -6,8 +6,8 @@ use Rattle.meetings.specs.Refusals.{Outcome, accepted, then}
 use Rattle.fewest.specs.Plans.{Plan}
 use Rattle.fewest.specs.Rounds.{fewest}
 use Rattle.fewest.specs.Statements.{LeastOfPlans}
-use Rattle.chains.specs.declared.board.Shape.{Shape}
-use Rattle.chains.specs.Boards.{Holds, Beyond}
+use Rattle.chains.specs.declared.shapes.Shape.{Shape}
+use Rattle.chains.specs.Rows.{Holds, Beyond}
 use Rattle.chains.specs.Shapes.{Sized, lent_shape, shape_of}
 use Rattle.placing.specs.declared.planned.Planned.{Planned}
 use Rattle.placing.specs.Putting.{put_all}

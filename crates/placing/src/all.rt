@@ -1,57 +1,59 @@
 // Putting in all meetings of a list.
-ghost use Rattle.std.specs.Prelude.{◌≡◌, ℕ, ◌<◌, ◌≤◌, length, replicate};
+ghost use Rattle.std.specs.Prelude.{◌≡◌, ℕ, ◌<◌, ◌≤◌, [], length, replicate};
 ghost use Rattle.fewest.specs.Plans.{none};
-ghost use Rattle.chains.specs.Boards.{On, rounds_on};
-ghost use Rattle.chains.specs.Finding.{Unused};
-ghost use Rattle.chains.specs.Shapes.{Sized};
+ghost use Rattle.chains.specs.Boards.{meetings_on, rounds_on};
+ghost use Rattle.chains.specs.Finding.{Finds, Unused};
+ghost use Rattle.placing.specs.Lent.{BoardLent, LentFor};
 ghost use Rattle.placing.specs.OnBoard.{PutsOn};
 ghost use Rattle.placing.specs.Putting.{placed, put_all};
 ghost use Rattle.placing.specs.Statements.{PlacedAll, Spare};
 
 use crate::put::put_in;
-use chains::{Board, Found, Shape};
+use chains::{Board, Found, Shape, empty};
 use meetings::{Meeting, MeetingId};
 
 // Puts in one meeting after the other, none of which has a round yet.
-fn put_each(
-    board: &mut Board<'_>,
-    meetings: &[Meeting],
-    shape: Shape,
-    rounds: u16,
-    found: &mut Found,
-) -> u64
-    requires board { On meetings.now shape board.old }
-    requires out { rounds_on board.old ≡ replicate (length meetings.now) none }
-    requires group_width { rounds ≤ shape.group_width }
-    requires station_width { rounds ≤ shape.station_width }
-    requires spare { (i : ℕ) → i < length meetings.now → Spare rounds meetings.now i }
-    requires unused { Unused found.old (length meetings.now) }
-    ensures { PutsOn meetings.now shape board.old board.new found.old found.new (put_all rounds meetings.now) result }
+fn put_each(board: &mut Board<'_>, rounds: u16, found: &mut Found) -> u64
+    requires out { rounds_on board.old ≡ replicate (length (meetings_on board.old)) none }
+    requires group_width { rounds ≤ board.old.shape.group_width }
+    requires station_width { rounds ≤ board.old.shape.station_width }
+    requires spare { (i : ℕ) → i < length (meetings_on board.old) → Spare rounds (meetings_on board.old) i }
+    requires unused { Unused found.old (length (meetings_on board.old)) }
+    ensures { PutsOn board.old board.new found.old found.new (put_all rounds (meetings_on board.old)) result }
 {
     let mut looks = 0;
-    for meeting in 0..meetings.len() as u16 {
-        looks += put_in(board, meetings, shape, rounds, MeetingId(meeting), found);
+    for meeting in 0..board.meetings.len() as u16 {
+        looks += put_in(board, rounds, MeetingId(meeting), found);
     }
     looks
 }
 
-// Puts in all meetings, in their order, into a board that is emptied first. No group and no station has more meetings than there
-// are rounds, so each gets a round; the looks are 1 + n + k at most for each.
+// Puts in all meetings, in their order, on a board over the lent slices, which are emptied first. No group and no station has
+// more meetings than there are rounds, so each gets a round; the looks are 1 + n + k at most for each.
 pub fn put_in_all(
-    board: &mut Board<'_>,
     meetings: &[Meeting],
     shape: Shape,
-    rounds: u16,
+    many: u16,
+    rounds: &mut [u16],
+    group_rows: &mut [u16],
+    station_rows: &mut [u16],
     found: &mut Found,
 ) -> u64
-    requires sized { Sized meetings.now shape (rounds_on board.old) board.old.group_rows.now board.old.station_rows.now }
-    requires group_width { rounds ≤ shape.group_width }
-    requires station_width { rounds ≤ shape.station_width }
-    requires spare { (i : ℕ) → i < length meetings.now → Spare rounds meetings.now i }
+    requires lent { LentFor meetings.now shape many rounds.old group_rows.old station_rows.old }
     requires unused { Unused found.old (length meetings.now) }
-    ensures rule { PutsOn meetings.now shape board.old board.new found.old found.new (put_all rounds meetings.now) result }
-    ensures placed { PlacedAll shape.groups shape.stations rounds meetings.now (placed (rounds_on board.new) result) }
+    ensures rounds { rounds.new ≡ (put_all many meetings.now).rounds }
+    ensures looks { result ≡ (put_all many meetings.now).looks }
+    ensures rows { BoardLent meetings.now shape rounds.new group_rows.old group_rows.new station_rows.old station_rows.new }
+    ensures forgotten { Finds found.old found.new [] }
+    ensures placed { PlacedAll shape.groups shape.stations many meetings.now (placed rounds.new result) }
 {
-    board.empty(shape);
-    put_each(board, meetings, shape, rounds, found)
+    empty(shape, rounds, group_rows, station_rows);
+    let mut board = Board {
+        meetings,
+        shape,
+        rounds,
+        group_rows,
+        station_rows,
+    };
+    put_each(&mut board, many, found)
 }

@@ -1,62 +1,58 @@
 // Searching rows for free rounds.
-ghost use Rattle.std.specs.Prelude.{◌≡◌, ◌<◌, ◌≤◌, ◌&&◌, length, ◌==◌, slice_index};
+ghost use Rattle.std.specs.Prelude.{◌≡◌, ◌<◌, ◌≤◌, ◌&&◌, length, ◌==◌, slice_index, find};
+ghost use Rattle.std.specs.List.{range_with_len};
 ghost use Rattle.fewest.specs.Plans.{none};
-ghost use Rattle.chains.specs.Boards.{On, rounds_on};
+ghost use Rattle.chains.specs.Boards.{meetings_on, rounds_on};
 ghost use Rattle.chains.specs.Lowest.{lowest};
+ghost use Rattle.chains.specs.Partial.{Unless};
 ghost use Rattle.placing.specs.Putting.{common_free, own_free};
 
-use chains::{Board, NONE, Shape, party_of};
-use meetings::{Meeting, MeetingId, Side};
+use chains::{Board, NONE};
+use meetings::{MeetingId, Round, Side};
 
-// The lowest of so many rounds that is free in both rows; their number if there is none.
-pub fn lowest_common_free(one: &[u16], other: &[u16], rounds: u16) -> u16
+// The lowest of so many rounds that is free in both rows, if there is one.
+pub fn lowest_common_free(one: &[u16], other: &[u16], rounds: u16) -> Option<Round>
     requires one { rounds ≤ length one.now }
     requires other { rounds ≤ length other.now }
-    ensures { result ≡ lowest (λ c. (slice_index one.now c == none) && slice_index other.now c == none) rounds }
+    ensures { Unless rounds (λ c. c.0) result (lowest (λ c. (slice_index one.now c == none) && slice_index other.now c == none) rounds) }
 {
-    for round in 0..rounds {
-        if one[round as usize] == NONE && other[round as usize] == NONE {
-            return round;
-        }
-    }
-    rounds
+    first_common_free(one, other, rounds).map(Round)
 }
 
-// The lowest round in which the group and the station of a meeting are both free.
-pub(crate) fn common_free(
-    board: &Board<'_>,
-    meetings: &[Meeting],
-    shape: Shape,
-    rounds: u16,
-    meeting: MeetingId,
-) -> u16
-    requires board { On meetings.now shape board.now }
-    requires here { meeting.0 < length meetings.now }
-    requires group_width { rounds ≤ shape.group_width }
-    requires station_width { rounds ≤ shape.station_width }
-    ensures { result ≡ common_free rounds meetings.now (rounds_on board.now) meeting.0 }
+// The first of so many rounds that is free in both rows.
+fn first_common_free(one: &[u16], other: &[u16], rounds: u16) -> Option<u16>
+    requires one { rounds ≤ length one.now }
+    requires other { rounds ≤ length other.now }
+    ensures { result ≡ find (λ c. (slice_index one.now c == none) && slice_index other.now c == none) (range_with_len 0 rounds) }
 {
-    let parties = meetings[meeting.0 as usize];
-    let group_row = board.row(shape, Side::Groups, parties.group.0);
-    let station_row = board.row(shape, Side::Stations, parties.station.0);
+    (0..rounds).find(|&round| one[round as usize] == NONE && other[round as usize] == NONE)
+}
+
+// The lowest round in which the group and the station of a meeting are both free, if there is one.
+pub(crate) fn common_free(board: &Board<'_>, rounds: u16, meeting: MeetingId) -> Option<Round>
+    requires here { meeting.0 < length (meetings_on board.now) }
+    requires group_width { rounds ≤ board.now.shape.group_width }
+    requires station_width { rounds ≤ board.now.shape.station_width }
+    ensures { Unless rounds (λ c. c.0) result (common_free rounds (meetings_on board.now) (rounds_on board.now) meeting.0) }
+{
+    let parties = board.meetings[meeting.0 as usize];
+    let group_row = board.row(Side::Groups, parties.group.0);
+    let station_row = board.row(Side::Stations, parties.station.0);
     lowest_common_free(group_row, station_row, rounds)
 }
 
-// The lowest round in which the group of a meeting, or its station, is free.
+// The lowest round in which the group of a meeting, or its station, is free, if there is one.
 pub(crate) fn own_free(
     board: &Board<'_>,
-    meetings: &[Meeting],
-    shape: Shape,
     rounds: u16,
     side: Side,
     meeting: MeetingId,
-) -> u16
-    requires board { On meetings.now shape board.now }
-    requires here { meeting.0 < length meetings.now }
-    requires group_width { rounds ≤ shape.group_width }
-    requires station_width { rounds ≤ shape.station_width }
-    ensures { result ≡ own_free rounds meetings.now (rounds_on board.now) meeting.0 side }
+) -> Option<Round>
+    requires here { meeting.0 < length (meetings_on board.now) }
+    requires group_width { rounds ≤ board.now.shape.group_width }
+    requires station_width { rounds ≤ board.now.shape.station_width }
+    ensures { Unless rounds (λ c. c.0) result (own_free rounds (meetings_on board.now) (rounds_on board.now) meeting.0 side) }
 {
-    let row = board.row(shape, side, party_of(meetings[meeting.0 as usize], side));
+    let row = board.row(side, board.meetings[meeting.0 as usize].party(side));
     lowest_common_free(row, row, rounds)
 }

@@ -1,41 +1,15 @@
 // Placing all meetings of a list in the fewest rounds.
-ghost use Rattle.std.specs.Prelude.{◌≡◌, length, IfOk, MatchResult};
+ghost use Rattle.std.specs.Prelude.{length, IfOk, MatchResult};
 ghost use Rattle.meetings.specs.Held.{contents};
 ghost use Rattle.meetings.specs.Refusals.{Answers};
-ghost use Rattle.chains.specs.Finding.{Unused};
-ghost use Rattle.placing.specs.Lent.{BoardLent, LentFor, PlacedLent, PlansAll, Unchanged, place_all};
-ghost use Rattle.placing.specs.Putting.{put_all};
+ghost use Rattle.placing.specs.Lent.{PlacedLent, PlansAll, Unchanged, place_all};
 
 use crate::all::put_in_all;
 use crate::planned::Planned;
-use chains::{Board, Found, Shape};
+use chains::{Found, Shape};
 use fewest::fewest_rounds;
-use meetings::{Meeting, MeetingList, Refusal};
+use meetings::{MeetingList, Refusal};
 use std::alloc::Global;
-
-// Puts all meetings in, on a board over the lent slices.
-fn place_on(
-    meetings: &[Meeting],
-    shape: Shape,
-    many: u16,
-    rounds: &mut [u16],
-    group_rows: &mut [u16],
-    station_rows: &mut [u16],
-    found: &mut Found,
-) -> u64
-    requires lent { LentFor meetings.now shape many rounds.old group_rows.old station_rows.old }
-    requires unused { Unused found.old (length meetings.now) }
-    ensures rounds { rounds.new ≡ (put_all many meetings.now).rounds }
-    ensures looks { result ≡ (put_all many meetings.now).looks }
-    ensures rows { BoardLent meetings.now shape rounds.new group_rows.old group_rows.new station_rows.old station_rows.new }
-{
-    let mut board = Board {
-        rounds,
-        group_rows,
-        station_rows,
-    };
-    put_in_all(&mut board, meetings, shape, many, found)
-}
 
 // Places all meetings by the rule, in the fewest rounds.
 fn place_by_rule(
@@ -58,7 +32,7 @@ fn place_by_rule(
     )?;
     let meetings = list.meetings();
     let mut found = Found::none(heap, meetings.len())?;
-    let looks = place_on(
+    let looks = put_in_all(
         meetings,
         shape,
         many,

@@ -3,4 +3,4 @@ use Rattle.placing.proofs.all.put_each.Given as goal
 
 -- those before this one are put in
 abbrev pub invariant-loop-meeting : goal.invariant-loop-meeting
-invariant-loop-meeting l = Putting l.rounds l.meetings l.shape l.initial.board l.board l.initial.found l.found l.meeting l.looks
+invariant-loop-meeting l = Putting l.rounds l.initial.board l.board l.initial.found l.found l.meeting l.looks

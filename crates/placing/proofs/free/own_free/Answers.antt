@@ -1,11 +1,11 @@
 -- The row is searched beside itself.
-use Rattle.std.proofs.Common.{refl, ◌∙◌}
+use Rattle.chains.specs.Boards.{meetings_on, rounds_on}
 use Rattle.placing.proofs.RowsSearched.{own_read, own_shown}
 use Rattle.placing.proofs.free.own_free.Goals as goal
 
 pub returns : goal.returns
 returns c =
-    let ms = c.args.meetings.now in
+    let d = c.args.board.now in
     let i = c.args.meeting.0 in
-    let read = own_read c.args.rounds ms _ i c.args.shape c.args.board.now c.args.side c.party_of.result c.row-row.result.now c.requires.board refl c.requires.here c.requires.group_width c.requires.station_width c.party_of.ensures c.row-row.ensures.long (c.row-row.ensures.of_board ms) in
-    c.lowest_common_free.ensures ∙ own_shown c.args.rounds ms _ i c.args.side c.row-row.result.now read.0 read.1
+    let read = own_read c.args.rounds d i c.args.side _ c.row-row.result.now c.requires.here c.requires.group_width c.requires.station_width c.party.ensures c.row-row.ensures.long c.row-row.ensures.of_board in
+    rw (← own_shown c.args.rounds (meetings_on d) (rounds_on d) i c.args.side c.row-row.result.now read.0 read.1) c.lowest_common_free.ensures
