@@ -16,12 +16,12 @@ pub struct Found {
     ghost marked: { Marked marks.items list.items (vec_capacity list) },
 }
 
-// Sets the mark of a meeting.
-fn mark(marks: &mut [bool], meeting: MeetingId)
+// Sets a mark or clears it.
+fn mark(marks: &mut [bool], meeting: MeetingId, set_to: bool)
     requires within { meeting.0 < length marks.old }
-    ensures { marks.new ≡ slice_set marks.old meeting.0 true }
+    ensures { marks.new ≡ slice_set marks.old meeting.0 set_to }
 {
-    marks[meeting.0 as usize] = true;
+    marks[meeting.0 as usize] = set_to;
 }
 
 impl Found {
@@ -57,7 +57,7 @@ impl Found {
         requires new { holds (found_in self.old) meeting.0 ≡ false }
         ensures { Finds self.old self.new (found_in self.old ++ meeting.0 ∷ []) }
     {
-        mark(&mut self.marks, meeting);
+        mark(&mut self.marks, meeting, true);
         self.list.push_reserved(meeting.0);
     }
 
@@ -77,6 +77,6 @@ fn clear_marks(marks: &mut [bool], list: &[u16])
     ensures { marks.new ≡ replicate (length marks.old) false }
 {
     for meeting in list {
-        marks[*meeting as usize] = false;
+        mark(marks, MeetingId(*meeting), false);
     }
 }
