@@ -33,8 +33,8 @@ module _ (t : Two) (few : t.many ≤ none) (v w : Found) (side s : Side) (from j
   pub neighbour_there : (z : ℕ) → z ≡ near t s j → (near t s j ≡ none → ⊥) → z < t.many
   neighbour_there z e some = ⊎_elim (λ past. absurd (some past)) (λ below. rw e below) (at_cases t.many (t.party s) t.round (t.party s j) _)
 
-  pub follow_on : (z : ℕ) (w' : Found) → z ≡ near t s j → z < t.many → holds (found_in w) z ≡ false → Finds w w' (found_in w ++ z ∷ []) → Following t v side from w' (other_side s) z
-  follow_on z w' e below out more =
+  pub follow_on : (z : ℕ) (w' : Found) (s' : Side) → s' ≡ other_side s → z ≡ near t s j → z < t.many → holds (found_in w) z ≡ false → Finds w w' (found_in w ++ z ∷ []) → Following t v side from w' s' z
+  follow_on z w' s' through e below out more =
       let near_below : near t s j < t.many = omega arith in
       let near_out : holds (found_in w) (near t s j) ≡ false = ap (holds (found_in w)) (sym e) ∙ out in
       let held : holds (found_in w') ≡ with_one (holds (found_in w)) z = ap holds more.list ∙ holds_more (found_in w) z in
@@ -43,7 +43,7 @@ module _ (t : Two) (few : t.many ≤ none) (v w : Found) (side s : Side) (from j
         here = below;
         of_two = ap (in_two t) e ∙ near_in t few s j f.of_two near_below;
         among = more.among ∙ f.among;
-        whole = ap (λ V. found_in w' ++ walked t V (other_side s) z) held ∙ ap (λ l. l ++ walked t (with_one (holds (found_in w)) z) (other_side s) z) more.list ∙ append_assoc (found_in w) (z ∷ []) _ ∙ ap (λ l. found_in w ++ l) (sym step) ∙ f.whole;
+        whole = ap (λ x. found_in w' ++ walked t (holds (found_in w')) x z) through ∙ ap (λ V. found_in w' ++ walked t V (other_side s) z) held ∙ ap (λ l. l ++ walked t (with_one (holds (found_in w)) z) (other_side s) z) more.list ∙ append_assoc (found_in w) (z ∷ []) _ ∙ ap (λ l. found_in w ++ l) (sym step) ∙ f.whole;
       }
 
   -- what is left falls

@@ -15,7 +15,7 @@ chain-preserved c =
     let few = c.args.self.now.held.few in
     let next = c.in-Some.ensures in
     let there = neighbour_there _ few _ _ _ _ _ _ c.chain.invariant _ next.0 next.1 in
-    rw c.other-through.ensures (follow_on _ few _ _ _ _ _ _ c.chain.invariant _ _ next.0 there (sym c.if-has.ensures) c.add.ensures)
+    follow_on _ few _ _ _ _ _ _ c.chain.invariant _ _ _ c.other-through.ensures next.0 there (sym c.if-has.ensures) c.add.ensures
 
 pub returns-in_default : goal.returns-in_default
 returns-in_default c = follow_ends _ c.args.self.now.held.few _ _ _ _ _ _ c.chain.invariant _ refl (inl c.in_default.ensures)
