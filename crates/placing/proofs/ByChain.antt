@@ -5,7 +5,10 @@ use Rattle.meetings.specs.declared.numbers.Meeting.{Meeting}
 use Rattle.meetings.specs.declared.numbers.Side.{Side}
 use Rattle.meetings.specs.declared.numbers.Side.TheVariants.{Groups, Stations}
 use Rattle.fewest.specs.Plans.{none}
+use Rattle.chains.specs.declared.board.Board.{Board}
+use Rattle.chains.specs.declared.found.Found.{Found}
 use Rattle.chains.specs.declared.shapes.Shape.{Shape}
+use Rattle.chains.specs.Boards.{meetings_on, rounds_on}
 use Rattle.chains.specs.Rows.{WithinRows}
 use Rattle.chains.specs.Chains.{two, holds, chain}
 use Rattle.chains.specs.Exchanges.{Exchangeable, exchanged}
@@ -13,8 +16,9 @@ use Rattle.chains.specs.Partial.{Vacant, party_of, round_of, meeting_of}
 use Rattle.chains.proofs.Exchange.{exchanged_none}
 use Rattle.chains.proofs.Lowest.{lowest_of}
 use Rattle.placing.specs.Putting.{chain_for, common_free, free, own_free, placed, put, put_by_chain}
-use Rattle.placing.specs.Statements.{Opens, Ready}
-use Rattle.placing.proofs.PutOne.{chain_frees, common_frees}
+use Rattle.placing.specs.OnBoard.{PutsOn}
+use Rattle.placing.specs.Statements.{Opens, PutIn, Ready}
+use Rattle.placing.proofs.PutOne.{chain_frees, common_frees, puts, put_in_as}
 use Rattle.placing.proofs.Opens.{chain_opens}
 
 module _ (ms : List Meeting) (xs : List ℕ) (i a b : ℕ) where
@@ -59,3 +63,7 @@ module _ (n k r : ℕ) (ms : List Meeting) (xs : List ℕ) (i : ℕ) (ready : Re
         ap (λ x. put_by_chain ms xs i x b) is_a
         ∙ ap (put_by_chain ms xs i (own_free r ms xs i Groups)) is_b
         ∙ sym (cond-false (ltb (common_free r ms xs i) r) _ _ (le-ltb _ _ none_common))
+
+-- what the rule leaves on a board has the meeting put in
+pub put_in_on : (d e : Board) (v w : Found) (r i looks : ℕ) → Ready d.shape.groups d.shape.stations r (meetings_on d) (rounds_on d) i → PutsOn d e v w (put r (meetings_on d) (rounds_on d) i) looks → PutIn d.shape.groups d.shape.stations r (meetings_on d) (rounds_on d) i (placed (rounds_on e) looks)
+put_in_on d e v w r i looks ready done = put_in_as _ _ _ _ _ _ _ _ _ done.board.rounds done.looks (puts _ _ r (meetings_on d) (rounds_on d) i ready)

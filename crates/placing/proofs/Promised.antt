@@ -1,19 +1,18 @@
 -- What was answered is the rule's plan, which has the fewest rounds. Assumes nothing.
-use Rattle.std.proofs.Common.{◌≡◌, ℕ, ◌≤◌, List, length, take, IfOk, Ok, Err, Result, sym, ap, ◌∙◌, arith, MatchResult}
+use Rattle.std.proofs.Common.{◌≡◌, ℕ, ◌≤◌, List, length, take, sym, ap, ◌∙◌, arith}
 use Rattle.std.proofs.lemmas.List.{take_at}
 use Rattle.meetings.specs.declared.list.MeetingList.{MeetingList}
-use Rattle.meetings.specs.declared.refusal.Refusal.{Refusal}
 use Rattle.meetings.specs.Held.{contents}
-use Rattle.meetings.specs.Refusals.{Answers, accepted}
+use Rattle.meetings.specs.Refusals.{accepted}
 use Rattle.meetings.proofs.Holds.{proper}
-use Rattle.meetings.proofs.Outcomes.{accepted_from_ok, then_accepted}
+use Rattle.meetings.proofs.Outcomes.{then_accepted}
 use Rattle.fewest.specs.Plans.{none}
 use Rattle.fewest.specs.Rounds.{fewest}
 use Rattle.fewest.proofs.NoFewer.{no_fewer_said}
 use Rattle.chains.specs.Shapes.{lent_shape}
 use Rattle.chains.proofs.Fitting.{accepted_fits}
 use Rattle.placing.specs.declared.planned.Planned.{Planned}
-use Rattle.placing.specs.Lent.{PlacedLent, PlansAll, Unchanged, place_all}
+use Rattle.placing.specs.Lent.{PlacedLent, PlansAll, place_all}
 use Rattle.placing.specs.Putting.{put_all}
 use Rattle.placing.proofs.PutAll.{puts_all, spare_at}
 
@@ -38,7 +37,3 @@ module _ (l : MeetingList) (xs xs' gs gs' ss ss' : List ℕ) (p : Planned) (is :
         no_fewer = no_fewer_said d p.rounds (proper l).rooms_within.0 rounds;
         looks = omega (arith, all.looks);
       }
-
-pub promised_if_made : (l : MeetingList) (xs xs' gs gs' ss ss' : List ℕ) (r : Result Planned Refusal) → Answers (λ p. p) r (place_all (contents l) (length xs) (length gs) (length ss)) → MatchResult r (λ p. PlacedLent (contents l) xs xs' gs gs' ss ss') (λ e. Unchanged xs xs' gs gs' ss ss') → IfOk r (PlansAll (contents l) xs')
-promised_if_made l xs xs' gs gs' ss ss' (Ok p) answer lent = promised l xs xs' gs gs' ss ss' p (accepted_from_ok (λ q. q) p answer) lent
-promised_if_made l xs xs' gs gs' ss ss' (Err e) answer lent = tt

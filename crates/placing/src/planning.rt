@@ -11,8 +11,10 @@ use fewest::fewest_rounds;
 use meetings::{MeetingList, Refusal};
 use std::alloc::Global;
 
-// Places all meetings by the rule, in the fewest rounds.
-fn place_by_rule(
+// Places all meetings of a list in the fewest rounds; rooms are not asked. Lent are the rounds of the meetings, a row of rounds
+// for each group, and one for each station. A slice that is too short is refused, and memory may be wanting; nothing lent has
+// changed then. Else the lent rounds hold a plan, and no plan within the rooms has fewer rounds.
+pub fn place_all(
     heap: Global,
     list: &MeetingList,
     rounds: &mut [u16],
@@ -21,6 +23,7 @@ fn place_by_rule(
 ) -> Result<Planned, Refusal>
     ensures answer { Answers (λ p. p) result (place_all (contents list.now) (length rounds.old) (length group_rows.old) (length station_rows.old)) }
     ensures lent { MatchResult result (λ _. PlacedLent (contents list.now) rounds.old rounds.new group_rows.old group_rows.new station_rows.old station_rows.new) (λ _. Unchanged rounds.old rounds.new group_rows.old group_rows.new station_rows.old station_rows.new) }
+    ensures planned { IfOk result (PlansAll (contents list.now) rounds.new) }
 {
     let many = fewest_rounds(heap, list)?;
     let shape = Shape::of_lent(
@@ -45,21 +48,4 @@ fn place_by_rule(
         rounds: many,
         looks,
     })
-}
-
-// Places all meetings of a list in the fewest rounds; rooms are not asked. Lent are the rounds of the meetings, a row of rounds
-// for each group, and one for each station. A slice that is too short is refused, and memory may be wanting; nothing lent has
-// changed then. Else the lent rounds hold a plan, and no plan within the rooms has fewer rounds.
-pub fn place_all(
-    heap: Global,
-    list: &MeetingList,
-    rounds: &mut [u16],
-    group_rows: &mut [u16],
-    station_rows: &mut [u16],
-) -> Result<Planned, Refusal>
-    ensures answer { Answers (λ p. p) result (place_all (contents list.now) (length rounds.old) (length group_rows.old) (length station_rows.old)) }
-    ensures lent { MatchResult result (λ _. PlacedLent (contents list.now) rounds.old rounds.new group_rows.old group_rows.new station_rows.old station_rows.new) (λ _. Unchanged rounds.old rounds.new group_rows.old group_rows.new station_rows.old station_rows.new) }
-    ensures planned { IfOk result (PlansAll (contents list.now) rounds.new) }
-{
-    place_by_rule(heap, list, rounds, group_rows, station_rows)
 }

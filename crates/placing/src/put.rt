@@ -22,7 +22,9 @@ fn open_round(
     ensures { Opened board.old board.new found.old found.new meeting.0 rounds.a.0 rounds.b.0 result }
 {
     let parties = board.meetings[meeting.0 as usize];
-    let first = board.met(Side::Stations, parties.station.0, rounds.a).unwrap();
+    let first = board
+        .met(Side::Stations, parties.station.0, rounds.a)
+        .unwrap();
     board.find_chain(rounds, first, found);
     board.exchange(rounds, found.list());
     let length = found.list().len() as u64;
@@ -46,10 +48,13 @@ fn put_by_chain(
     1 + length
 }
 
-// Puts one meeting in by the rule.
-fn put_meeting(board: &mut Board<'_>, rounds: u16, meeting: MeetingId, found: &mut Found) -> u64
+// Puts one meeting in: into the lowest round in which its group and its station are free, else by a chain. Answers the looks:
+// one for the meeting, and one for each meeting of the chain. The meeting has a round then, all others have one still, and the
+// looks are 1 + n + k at most.
+pub fn put_in(board: &mut Board<'_>, rounds: u16, meeting: MeetingId, found: &mut Found) -> u64
     requires { ReadyOn board.old found.old rounds meeting.0 }
     ensures rule { PutsOn board.old board.new found.old found.new (put rounds (meetings_on board.old) (rounds_on board.old) meeting.0) result }
+    ensures placed { PutIn board.old.shape.groups board.old.shape.stations rounds (meetings_on board.old) (rounds_on board.old) meeting.0 (placed (rounds_on board.new) result) }
     ensures few { result ≤ 1 + none }
 {
     if let Some(common) = common_free(board, rounds, meeting) {
@@ -60,16 +65,4 @@ fn put_meeting(board: &mut Board<'_>, rounds: u16, meeting: MeetingId, found: &m
     let a = own_free(board, rounds, Side::Groups, meeting).unwrap();
     let b = own_free(board, rounds, Side::Stations, meeting).unwrap();
     put_by_chain(board, TwoRounds { a, b }, meeting, found)
-}
-
-// Puts one meeting in: into the lowest round in which its group and its station are free, else by a chain. Answers the looks:
-// one for the meeting, and one for each meeting of the chain. The meeting has a round then, all others have one still, and the
-// looks are 1 + n + k at most.
-pub fn put_in(board: &mut Board<'_>, rounds: u16, meeting: MeetingId, found: &mut Found) -> u64
-    requires { ReadyOn board.old found.old rounds meeting.0 }
-    ensures rule { PutsOn board.old board.new found.old found.new (put rounds (meetings_on board.old) (rounds_on board.old) meeting.0) result }
-    ensures placed { PutIn board.old.shape.groups board.old.shape.stations rounds (meetings_on board.old) (rounds_on board.old) meeting.0 (placed (rounds_on board.new) result) }
-    ensures few { result ≤ 1 + none }
-{
-    put_meeting(board, rounds, meeting, found)
 }

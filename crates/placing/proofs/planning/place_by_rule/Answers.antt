@@ -1,7 +1,0 @@
--- The list is proper, and the slices were found long enough.
-use Rattle.placing.proofs.Entering.{enters}
-use Rattle.placing.proofs.planning.place_by_rule.Goals as goal
-
-pub put_in_all-looks-requires-clause-lent : goal.put_in_all-looks-requires-clause-lent
-put_in_all-looks-requires-clause-lent c =
-    enters c.args.list.now c.meetings-meetings.result.now c.in_ok-shape.shape c.in_ok-many.many c.args.rounds.now c.args.group_rows.now c.args.station_rows.now c.meetings-meetings.ensures c.in_ok-many.ensures.answer c.in_ok-shape.ensures
