@@ -21,7 +21,7 @@ fn mark(marks: &mut [bool], meeting: MeetingId, set_to: bool)
     requires within { meeting.0 < length marks.old }
     ensures { marks.new ≡ slice_set marks.old meeting.0 set_to }
 {
-    marks[meeting.0 as usize] = set_to;
+    marks[usize::from(meeting.0)] = set_to;
 }
 
 impl Found {
@@ -41,7 +41,7 @@ impl Found {
         requires within { meeting.0 < among_all self.now }
         ensures { result ≡ holds (found_in self.now) meeting.0 }
     {
-        self.marks[meeting.0 as usize]
+        self.marks[usize::from(meeting.0)]
     }
 
     // The meetings found, in their order.

@@ -36,8 +36,7 @@ impl Board<'_> {
         requires in_two { InTwo self.now rounds meeting.0 }
         ensures { Unless none (λ i. i.0) result (near (two_on self.now rounds) side meeting.0) }
     {
-        let party = self.meetings[meeting.0 as usize].party(side);
         let there = rounds.other(self.round_of(meeting)?);
-        self.met(side, party, there)
+        self.met(side, self.party_of(meeting, side), there)
     }
 }

@@ -2,7 +2,7 @@
 ghost use Rattle.std.specs.Prelude.{◌≡◌, ◌+◌, ◌*◌, ◌<◌, ◌≤◌, length, take, drop};
 ghost use Rattle.fewest.specs.Plans.{none};
 ghost use Rattle.chains.specs.Boards.{meetings_on, rounds_on, rows_of};
-ghost use Rattle.chains.specs.Partial.{Unless, meeting_of, round_of};
+ghost use Rattle.chains.specs.Partial.{Unless, meeting_of, party_of, round_of};
 ghost use Rattle.chains.specs.Rows.{RowOf, parties_of, width_of};
 
 use crate::board::{Board, NONE};
@@ -16,12 +16,20 @@ fn unless_none(entry: u16) -> Option<u16>
 }
 
 impl Board<'_> {
+    // The group or the station of a meeting.
+    pub fn party_of(&self, meeting: MeetingId, side: Side) -> u16
+        requires here { meeting.0 < length (meetings_on self.now) }
+        ensures { result ≡ party_of (meetings_on self.now) side meeting.0 }
+    {
+        self.meetings[usize::from(meeting.0)].party(side)
+    }
+
     // The round of a meeting, if it has one.
     pub fn round_of(&self, meeting: MeetingId) -> Option<Round>
         requires here { meeting.0 < length (rounds_on self.now) }
         ensures { Unless none (λ c. c.0) result (round_of (rounds_on self.now) meeting.0) }
     {
-        unless_none(self.rounds[meeting.0 as usize]).map(Round)
+        unless_none(self.rounds[usize::from(meeting.0)]).map(Round)
     }
 
     // The meeting that a group or a station has in a round, if it has one there.
@@ -31,7 +39,7 @@ impl Board<'_> {
         ensures { Unless none (λ i. i.0) result (meeting_of (meetings_on self.now) (rounds_on self.now) side party round.0) }
     {
         let row = self.row(side, party);
-        unless_none(row[round.0 as usize]).map(MeetingId)
+        unless_none(row[usize::from(round.0)]).map(MeetingId)
     }
 
     // The row of a group or a station: the meeting that it has in each round, `NONE` where it has none.
@@ -54,6 +62,6 @@ fn row_in(rows: &[u16], width: u16, party: u16) -> &[u16]
     requires room { party * width + width ≤ length rows.now }
     ensures { result.now ≡ take width (drop (party * width) rows.now) }
 {
-    let start = party as usize * width as usize;
-    &rows[start..start + width as usize]
+    let start = usize::from(party) * usize::from(width);
+    &rows[start..start + usize::from(width)]
 }

@@ -6,7 +6,7 @@ fn write_in_row(row: &mut [u16], round: u16, entry: u16)
     requires within { round < length row.old }
     ensures { row.new ≡ slice_set row.old round entry }
 {
-    row[round as usize] = entry;
+    row[usize::from(round)] = entry;
 }
 
 // Lends a party's row on, to have one entry of it written.
@@ -15,6 +15,7 @@ pub(crate) fn write_entry(rows: &mut [u16], width: u16, party: u16, round: u16, 
     requires within { round < width }
     ensures { rows.new ≡ slice_set rows.old (party * width + round) entry }
 {
+    // `as`, since after a `From` it is not proved where in the whole slice the part lies
     let start = party as usize * width as usize;
     write_in_row(&mut rows[start..start + width as usize], round, entry);
 }

@@ -13,7 +13,7 @@ fn clear_rows(rows: &mut [u16], parties: u16, width: u16)
     requires room { parties * width ≤ length rows.old }
     ensures { rows.new ≡ replicate (parties * width) none ++ drop (parties * width) rows.old }
 {
-    rows[0..parties as usize * width as usize].fill(NONE);
+    rows[0..usize::from(parties) * usize::from(width)].fill(NONE);
 }
 
 // Empties three slices, whatever they held: they are a board then on which no meeting has a round.

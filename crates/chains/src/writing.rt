@@ -18,12 +18,14 @@ impl Board<'_> {
         requires still { Holds (meetings_on self.old) self.old.shape (slice_set (rounds_on self.old) meeting.0 its_round) (slice_set self.old.group_rows.now (group_place self.old meeting.0 round.0) entry) (slice_set self.old.station_rows.now (station_place self.old meeting.0 round.0) entry) }
         ensures { Becomes self.old self.new (slice_set (rounds_on self.old) meeting.0 its_round) }
     {
-        let parties = self.meetings[meeting.0 as usize];
+        // `as`, since after a `From` it is not proved which entry is written
+        let at = meeting.0 as usize;
+        let parties = self.meetings[at];
         // borrowed together, since the board is one again only when all three are written
         let rounds = &mut *self.rounds;
         let group_rows = &mut *self.group_rows;
         let station_rows = &mut *self.station_rows;
-        rounds[meeting.0 as usize] = its_round;
+        rounds[at] = its_round;
         write_entry(
             group_rows,
             self.shape.group_width,

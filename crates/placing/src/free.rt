@@ -25,7 +25,7 @@ fn first_common_free(one: &[u16], other: &[u16], rounds: u16) -> Option<u16>
     requires other { rounds ≤ length other.now }
     ensures { result ≡ find (λ c. (slice_index one.now c == none) && slice_index other.now c == none) (range_with_len 0 rounds) }
 {
-    (0..rounds).find(|&round| one[round as usize] == NONE && other[round as usize] == NONE)
+    (0..rounds).find(|&round| one[usize::from(round)] == NONE && other[usize::from(round)] == NONE)
 }
 
 // The lowest round in which the group and the station of a meeting are both free, if there is one.
@@ -35,9 +35,8 @@ pub(crate) fn common_free(board: &Board<'_>, rounds: u16, meeting: MeetingId) ->
     requires station_width { rounds ≤ board.now.shape.station_width }
     ensures { Unless rounds (λ c. c.0) result (common_free rounds (meetings_on board.now) (rounds_on board.now) meeting.0) }
 {
-    let parties = board.meetings[meeting.0 as usize];
-    let group_row = board.row(Side::Groups, parties.group.0);
-    let station_row = board.row(Side::Stations, parties.station.0);
+    let group_row = board.row(Side::Groups, board.party_of(meeting, Side::Groups));
+    let station_row = board.row(Side::Stations, board.party_of(meeting, Side::Stations));
     lowest_common_free(group_row, station_row, rounds)
 }
 
@@ -53,6 +52,6 @@ pub(crate) fn own_free(
     requires station_width { rounds ≤ board.now.shape.station_width }
     ensures { Unless rounds (λ c. c.0) result (own_free rounds (meetings_on board.now) (rounds_on board.now) meeting.0 side) }
 {
-    let row = board.row(side, board.meetings[meeting.0 as usize].party(side));
+    let row = board.row(side, board.party_of(meeting, side));
     lowest_common_free(row, row, rounds)
 }

@@ -21,10 +21,8 @@ fn open_round(
     requires { OpensOn board.old found.old meeting.0 rounds.a.0 rounds.b.0 }
     ensures { Opened board.old board.new found.old found.new meeting.0 rounds.a.0 rounds.b.0 result }
 {
-    let parties = board.meetings[meeting.0 as usize];
-    let first = board
-        .met(Side::Stations, parties.station.0, rounds.a)
-        .unwrap();
+    let station = board.party_of(meeting, Side::Stations);
+    let first = board.met(Side::Stations, station, rounds.a).unwrap();
     board.find_chain(rounds, first, found);
     board.exchange(rounds, found.list());
     let length = found.list().len() as u64;
