@@ -4,11 +4,12 @@ ghost use Rattle.chains.specs.Rows.{Holds};
 use crate::shapes::Shape;
 use meetings::Meeting;
 
-// The round of a meeting that has none, and the meeting of a party that has none.
+// The round of a meeting that has none, and the meeting of a party that has none, in a lent slice: its entries are `u16`.
 pub const NONE: u16 = 65535;
 
 // The meetings, and three lent slices in which their rounds are kept: the round of each meeting, a row of rounds for each group,
-// and one for each station. Each entry of a row is the one meeting that the party has in the round.
+// and one for each station. Each entry of a row is the one meeting that the party has in the round. That a meeting, a round or
+// what was found is of this board is asked at each call: it is a fact of two values.
 #[derive(Drop)]
 pub struct Board<'a> {
     pub meetings: &'a [Meeting],

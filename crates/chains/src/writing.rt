@@ -11,7 +11,8 @@ use crate::rows::write_entry;
 use meetings::{MeetingId, Round};
 
 impl Board<'_> {
-    // Writes which round a meeting has, and one entry for a round in the row of its group and in that of its station.
+    // Writes which round a meeting has, and one entry for a round in the row of its group and in that of its station. What is
+    // written are entries of the lent slices, so none is a number here.
     fn write(&mut self, meeting: MeetingId, its_round: u16, round: Round, entry: u16)
         requires here { meeting.0 < length (meetings_on self.old) }
         requires within { WithinRows self.old.shape round.0 }

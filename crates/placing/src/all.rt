@@ -22,6 +22,7 @@ fn put_each(board: &mut Board<'_>, rounds: u16, found: &mut Found) -> u64
     ensures { PutsOn board.old board.new found.old found.new (put_all rounds (meetings_on board.old)) result }
 {
     let mut looks = 0;
+    // by their numbers, which is what a plan knows meetings by
     for meeting in 0..board.meetings.len() as u16 {
         looks += put_in(board, rounds, MeetingId(meeting), found);
     }
@@ -48,6 +49,7 @@ pub fn put_in_all(
     ensures placed { PlacedAll shape.groups shape.stations many meetings.now (placed rounds.new result) }
 {
     empty(shape, rounds, group_rows, station_rows);
+    // by a literal: of what a function answers it is not proved that the lent slices hold it in the end
     let mut board = Board {
         meetings,
         shape,

@@ -19,7 +19,7 @@ pub fn lowest_common_free(one: &[u16], other: &[u16], rounds: u16) -> Option<Rou
     first_common_free(one, other, rounds).map(Round)
 }
 
-// The first of so many rounds that is free in both rows.
+// The first of so many rounds that is free in both rows. A function of its own: what `find` answers is said in its own words.
 fn first_common_free(one: &[u16], other: &[u16], rounds: u16) -> Option<u16>
     requires one { rounds ≤ length one.now }
     requires other { rounds ≤ length other.now }
