@@ -88,6 +88,7 @@ impl Source<'_> {
 }
 
 // The list that the bytes say, or what is wrong with them first.
+#[tactic(auto, using(crate::proofs::Accepted::parts_read))]
 pub fn read(heap: Global, bytes: &[u8]) -> Result<MeetingList, Refusal>
     ensures answer { Answers contents result (read_list bytes.now) }
     ensures back { IfOk result (λ l. bytes_of (contents l) ≡ bytes.now) }

@@ -1,4 +1,4 @@
--- What was read is proper, and is written as it stood, since the rule accepts nothing else.
+-- What was read is proper, since the rule accepts nothing else.
 use Rattle.std.proofs.Common.{vec_items, sym}
 use Rattle.meetings.proofs.Accepted.{parts_read}
 use Rattle.meetings.proofs.Outcomes.{accepted_from_ok}
@@ -14,7 +14,3 @@ invariant_of-result c =
       few = proper.few;
       exist = proper.exist;
     }
-
-pub returns-clause-back : goal.returns-clause-back
-returns-clause-back c =
-    (parts_read (λ i. (c.type_inv.bytes i).fits) c.in-len5-up.len_at_least (sym c.in_ok-groups.ensures) (sym c.in_ok-stations.ensures) (sym c.in_ok-rooms.ensures) (sym c.in_ok-many.ensures) (accepted_from_ok vec_items _ c.in_ok-meetings.ensures)).1
