@@ -76,6 +76,7 @@ impl Source<'_> {
         ensures { Answers vec_items result (meetings_at self.now.bytes.now self.now.groups self.now.stations many 5 []) }
     {
         let mut read = Vec::new(heap);
+        // By number: chunks of two bytes would still need their places, and the last may be one byte.
         for i in 0..many {
             read.push(self.meeting(HEAD + 2 * usize::from(i))?)?;
         }
