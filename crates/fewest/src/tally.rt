@@ -17,46 +17,12 @@ pub struct Tally {
     stations: Vec<u16>,
 }
 
-// One meeting more for this party.
-fn count_one(numbers: &mut [u16], party: u16)
-    requires within { party < length numbers.old }
-    requires room { slice_index numbers.old party + 1 < 2 ^ 16 }
-    ensures { numbers.new ≡ slice_set numbers.old party (slice_index numbers.old party + 1) }
-{
-    numbers[party as usize] += 1;
-}
-
-// One pass over the meetings: each is counted for its group and for its station.
-fn count_meetings(meetings: &[Meeting], groups: &mut [u16], stations: &mut [u16])
-    requires few { length meetings.now ≤ most_meetings }
-    requires exist { Exist (length groups.old) (length stations.old) meetings.now }
-    requires no_groups { Tallied Groups [] groups.old }
-    requires no_stations { Tallied Stations [] stations.old }
-    ensures groups { Tallied Groups meetings.now groups.new }
-    ensures stations { Tallied Stations meetings.now stations.new }
-{
-    for meeting in meetings {
-        count_one(groups, meeting.group.0);
-        count_one(stations, meeting.station.0);
-    }
-}
-
 // The largest of these numbers, 0 where there are none.
+#[tactic(auto, using(crate::proofs::Numbers::largest_above, crate::proofs::Numbers::largest_within))]
 fn largest_of(numbers: &[u16]) -> u16
     ensures { result ≡ largest numbers.now }
 {
-    let mut best: u16 = 0;
-    for number in numbers {
-        best = best.max(*number);
-    }
-    best
-}
-
-// So many zeros.
-fn zeros(heap: Global, many: u16) -> Result<Vec<u16>, Refusal>
-    ensures { IfMemory result (λ v. v.items ≡ replicate many 0) }
-{
-    Ok(vec![in heap; 0u16; many as usize]?)
+    numbers.iter().copied().max().unwrap_or(0)
 }
 
 impl Tally {
@@ -64,9 +30,12 @@ impl Tally {
     pub fn of(heap: Global, list: &MeetingList) -> Result<Tally, Refusal>
         ensures { IfMemory result (Counts (contents list.now)) }
     {
-        let mut groups = zeros(heap, list.groups())?;
-        let mut stations = zeros(heap, list.stations())?;
-        count_meetings(list.meetings(), &mut groups, &mut stations);
+        let mut groups = vec![in heap; 0u16; usize::from(list.groups())]?;
+        let mut stations = vec![in heap; 0u16; usize::from(list.stations())]?;
+        for meeting in list.meetings() {
+            groups[usize::from(meeting.group.0)] += 1;
+            stations[usize::from(meeting.station.0)] += 1;
+        }
         Ok(Tally { groups, stations })
     }
 

@@ -1,27 +1,31 @@
--- The entries start at 0, one for each party of a proper list, and are tallied after the pass.
-use Rattle.std.proofs.Common.{length, ap, ◌∙◌}
-use lib.ListN.{length-replicate}
+-- Each entry starts at 0, and each turn counts one meeting for its group and for its station.
+use Rattle.std.proofs.Common.{◌≡◌, rules, replicate, vec_items, arith}
 use Rattle.meetings.specs.declared.numbers.Side.TheVariants.{Groups, Stations}
-use Rattle.fewest.proofs.Numbers.{tally_none}
-use Rattle.fewest.proofs.Ready.{few_meetings, places, tally_held}
+use Rattle.fewest.proofs.Tallying.{counting_none, party_counted, count_fits, counting_more, counting_all}
 use Rattle.fewest.proofs.tally.Tally.of.Goals as goal
 
-pub count_meetings-requires : goal.count_meetings-requires
-count_meetings-requires c =
-    let groups = c.deref_mut.ensures.value ∙ c.in_ok-groups.ensures in
-    let stations = c.deref_mut-2.ensures.value ∙ c.in_ok-stations.ensures in
-    record {
-      few = few_meetings c.args.list.now _ c.meetings.ensures;
-      exist = places c.args.list.now _ _ _ c.meetings.ensures (ap length groups ∙ length-replicate _ _ ∙ c.groups.ensures) (ap length stations ∙ length-replicate _ _ ∙ c.stations.ensures);
-      no_groups = tally_none Groups c.groups.result c.deref_mut.result.now groups;
-      no_stations = tally_none Stations c.stations.result c.deref_mut-2.result.now stations;
-    }
+pub loop-meeting-init : goal.loop-meeting-init
+loop-meeting-init c =
+    let groups : vec_items c.in_ok-groups.groups ≡ replicate c.args.list.now.groups 0 = search rules in
+    let stations : vec_items c.in_ok-stations.stations ≡ replicate c.args.list.now.stations 0 = search rules in
+    search (rules, counting_none Groups, counting_none Stations)
+
+pub index_mut-requires : goal.index_mut-requires
+index_mut-requires c =
+    omega (arith, party_counted Groups _ _ _ _ c.loop-meeting.invariant.0 c.loop-meeting-test.true, c.from-in-loop-meeting.ensures, c.loop-meeting.groups.ok.0)
+
+pub overflow_add-index_mut : goal.overflow_add-index_mut
+overflow_add-index_mut c = record { fits = search (rules, count_fits Groups _ _ _ _ c.loop-meeting.invariant.0) }
+
+pub index_mut-requires-in-loop-meeting : goal.index_mut-requires-in-loop-meeting
+index_mut-requires-in-loop-meeting c =
+    omega (arith, party_counted Stations _ _ _ _ c.loop-meeting.invariant.1 c.loop-meeting-test.true, c.from-in-loop-meeting-2.ensures, c.loop-meeting.stations.ok.0)
+
+pub overflow_add-index_mut-in-loop-meeting : goal.overflow_add-index_mut-in-loop-meeting
+overflow_add-index_mut-in-loop-meeting c = record { fits = search (rules, count_fits Stations _ _ _ _ c.loop-meeting.invariant.1) }
+
+pub loop-meeting-preserved : goal.loop-meeting-preserved
+loop-meeting-preserved c = search (rules, counting_more)
 
 pub returns : goal.returns
-returns c =
-    let groups = c.count_meetings.auto.groups ∙ c.deref_mut.ensures.len in
-    let stations = c.count_meetings.auto.stations ∙ c.deref_mut-2.ensures.len in
-    record {
-      of_groups = tally_held Groups c.args.list.now _ c.in_ok-groups.groups c.count_meetings.new.groups groups (groups ∙ c.in_ok-groups.groups.ok.0 ∙ ap length c.in_ok-groups.ensures ∙ length-replicate _ _ ∙ c.groups.ensures) c.meetings.ensures c.count_meetings.ensures.groups;
-      of_stations = tally_held Stations c.args.list.now _ c.in_ok-stations.stations c.count_meetings.new.stations stations (stations ∙ c.in_ok-stations.stations.ok.0 ∙ ap length c.in_ok-stations.ensures ∙ length-replicate _ _ ∙ c.stations.ensures) c.meetings.ensures c.count_meetings.ensures.stations;
-    }
+returns c = search (rules, counting_all)
