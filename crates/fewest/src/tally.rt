@@ -17,6 +17,23 @@ pub struct Tally {
     stations: Vec<u16>,
 }
 
+// One pass over the meetings: each is counted for its group and for its station.
+#[tactic(auto, using(crate::proofs::Tallying::tally_more, crate::proofs::Tallying::tally_all, crate::proofs::Tallying::tally_fits))]
+fn count_meetings(meetings: &[Meeting], groups: &mut [u16], stations: &mut [u16])
+    requires few { length meetings.now ≤ most_meetings }
+    requires exist { Exist (length groups.old) (length stations.old) meetings.now }
+    requires no_groups { Tallied Groups [] groups.old }
+    requires no_stations { Tallied Stations [] stations.old }
+    ensures groups { Tallied Groups meetings.now groups.new }
+    ensures stations { Tallied Stations meetings.now stations.new }
+{
+    for meeting in meetings {
+        // `as`, since after a `From` the range of an index has to be proved once more.
+        groups[meeting.group.0 as usize] += 1;
+        stations[meeting.station.0 as usize] += 1;
+    }
+}
+
 // The largest of these numbers, 0 where there are none.
 #[tactic(auto, using(crate::proofs::Numbers::largest_above, crate::proofs::Numbers::largest_within))]
 fn largest_of(numbers: &[u16]) -> u16
@@ -32,10 +49,7 @@ impl Tally {
     {
         let mut groups = vec![in heap; 0u16; usize::from(list.groups())]?;
         let mut stations = vec![in heap; 0u16; usize::from(list.stations())]?;
-        for meeting in list.meetings() {
-            groups[usize::from(meeting.group.0)] += 1;
-            stations[usize::from(meeting.station.0)] += 1;
-        }
+        count_meetings(list.meetings(), &mut groups, &mut stations);
         Ok(Tally { groups, stations })
     }
 
