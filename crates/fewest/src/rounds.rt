@@ -1,5 +1,5 @@
 // The number of rounds.
-ghost use Rattle.std.specs.Prelude.{◌≡◌, ◌+◌, ◌-◌, ◌/◌, ◌^◌, ◌<◌, ◌≤◌, IfOk};
+ghost use Rattle.std.specs.Prelude.{◌≡◌, IfOk};
 ghost use Rattle.meetings.specs.Held.{contents};
 ghost use Rattle.meetings.specs.Refusals.{IfMemory};
 ghost use Rattle.fewest.specs.Rounds.{fewest};
@@ -9,7 +9,8 @@ use crate::tally::Tally;
 use meetings::{MeetingList, Refusal};
 use std::alloc::Global;
 
-// The larger of what the busiest group or station has, and of what the rooms ask for.
+// The larger of what the busiest group or station has, and of what the rooms ask for. By itself, so that a wrong number is
+// refused here, and not in the proof of the theorems on it.
 #[tactic(auto, using(crate::proofs::NoFewer::rounded_up))]
 fn number_of_rounds(heap: Global, list: &MeetingList) -> Result<u16, Refusal>
     ensures { IfMemory result (λ x. x ≡ fewest (contents list.now)) }

@@ -1,5 +1,5 @@
 // How many meetings each group and each station has.
-ghost use Rattle.std.specs.Prelude.{◌≡◌, ◌+◌, ◌^◌, ◌<◌, ◌≤◌, max, [], length, replicate, slice_index, slice_set};
+ghost use Rattle.std.specs.Prelude.{◌≡◌, ◌≤◌, max, [], length};
 ghost use Rattle.meetings.specs.Held.{contents};
 ghost use Rattle.meetings.specs.Lists.{Contents, Exist, most_meetings};
 ghost use Rattle.meetings.specs.declared.numbers.Side.TheVariants.{Groups, Stations};
@@ -18,7 +18,6 @@ pub struct Tally {
 }
 
 // One pass over the meetings: each is counted for its group and for its station.
-#[tactic(auto, using(crate::proofs::Tallying::tally_more, crate::proofs::Tallying::tally_all, crate::proofs::Tallying::tally_fits))]
 fn count_meetings(meetings: &[Meeting], groups: &mut [u16], stations: &mut [u16])
     requires few { length meetings.now ≤ most_meetings }
     requires exist { Exist (length groups.old) (length stations.old) meetings.now }
