@@ -9,7 +9,6 @@ use crate::refusal::Refusal;
 use std::alloc::Global;
 
 // The bytes that say this list. Only memory can be wanting.
-#[tactic(auto, using(crate::proofs::Turns::write_one, crate::proofs::Turns::write_all))]
 pub fn write(heap: Global, list: &MeetingList) -> Result<Vec<u8>, Refusal>
     ensures answer { IfMemory result (λ v. v.items ≡ bytes_of (contents list.now)) }
     ensures back { IfOk result (λ v. read_list v.items ≡ accepted (contents list.now)) }

@@ -1,7 +1,10 @@
 -- A meeting's numbers fit a byte, since the list is proper.
+use Rattle.std.proofs.Common.{◌≡◌, vec_items, arith}
+use Rattle.std.proofs.lemmas.Grind.{common_steps}
 use Rattle.meetings.specs.declared.numbers.Side.TheVariants.{Groups, Stations}
+use Rattle.meetings.specs.Bytes.{bytes_of}
+use Rattle.meetings.specs.Held.{contents}
 use Rattle.meetings.proofs.Holds.{party_fits, written_back}
-use Rattle.meetings.proofs.Turns.{write_all}
 use Rattle.meetings.proofs.writing.write.Goals as goal
 
 pub overflow_cast-meeting : goal.overflow_cast-meeting
@@ -16,4 +19,5 @@ overflow_cast-meeting-in-loop-meeting c = record {
 
 pub returns-clause-back : goal.returns-clause-back
 returns-clause-back c =
-    written_back c.args.list.now _ (write_all _ _ _ c.loop-meeting-test.false c.loop-meeting.invariant)
+    let written : vec_items c.loop-meeting.bytes ≡ bytes_of (contents c.args.list.now) = grind (arith, common_steps) in
+    written_back c.args.list.now _ written
