@@ -17,7 +17,8 @@ pub struct Tally {
     stations: Vec<u16>,
 }
 
-// One pass over the meetings: each is counted for its group and for its station.
+// One pass over the meetings: each is counted for its group and for its station. By itself, over slices, so that a wrong
+// count is refused here, and not in a proof of the tally.
 fn count_meetings(meetings: &[Meeting], groups: &mut [u16], stations: &mut [u16])
     requires few { length meetings.now ≤ most_meetings }
     requires exist { Exist (length groups.old) (length stations.old) meetings.now }
@@ -41,6 +42,7 @@ fn largest_of(numbers: &[u16]) -> u16
     numbers.iter().copied().max().unwrap_or(0)
 }
 
+// A getter for each field: callers name the side that they want.
 impl Tally {
     // Counts the meetings of a list. Only memory can be wanting.
     pub fn of(heap: Global, list: &MeetingList) -> Result<Tally, Refusal>

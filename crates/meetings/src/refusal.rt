@@ -47,7 +47,7 @@ pub enum Refusal {
 }
 
 impl Refusal {
-    // The number of the reason, as programs print it.
+    // The number of the reason, as programs print it. A match, since a variant that holds something has no discriminant.
     pub fn number(&self) -> u8
         ensures { result ≡ number_of self.now }
     {
