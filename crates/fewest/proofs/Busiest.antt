@@ -1,17 +1,12 @@
 -- The busiest number is that of some party, or 0, and no party has more. Assumes nothing.
-use Rattle.std.proofs.Common.{◌≡◌, ℕ, zero, suc, ◌<◌, ◌≤◌, ◌⊎◌, List, [], ◌∷◌, length, get_or, sym, refl, ◌∙◌, inl, inr, ⊎_elim, arith}
+use Rattle.std.proofs.Common.{◌≡◌, ℕ, suc, ◌<◌, ◌≤◌, ◌⊎◌, List, [], ◌∷◌, length, get_or, sym, refl, ◌∙◌, inl, inr, ⊎_elim, arith}
 use Rattle.std.proofs.lemmas.Bool.{cases_lt}
 use Rattle.meetings.specs.declared.numbers.Side.{Side}
 use Rattle.meetings.specs.declared.numbers.Side.TheVariants.{Groups, Stations}
 use Rattle.meetings.specs.Lists.{Contents, parties}
 use Rattle.fewest.specs.Rounds.{meetings_of, numbers, largest, busiest}
 use Rattle.fewest.specs.Statements.{Busiest}
-use Rattle.fewest.proofs.Numbers.{numbers_long, number_at}
-
-largest_above : (xs : List ℕ) (i : ℕ) → i < length xs → get_or xs i 0 ≤ largest xs
-largest_above [] i h = absurd (omega arith)
-largest_above (x ∷ xs) zero h = omega arith
-largest_above (x ∷ xs) (suc i) h = let rest = largest_above xs i (omega arith) in omega arith
+use Rattle.fewest.proofs.Numbers.{largest_above, numbers_long, number_at}
 
 -- the largest stands somewhere
 abbrev Stands : List ℕ → Type 0

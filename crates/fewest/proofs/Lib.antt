@@ -2,5 +2,5 @@ pub mod Busiest
 pub mod Counting
 pub mod NoFewer
 pub mod Numbers
-pub mod Ready
+pub mod Tallying
 pub mod Worked

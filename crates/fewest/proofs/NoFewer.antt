@@ -1,6 +1,8 @@
 -- No plan has fewer rounds: each round has at most one meeting of a party, and at most as many as there are rooms; counted
 -- round by round these are all. Assumes nothing.
-use Rattle.std.proofs.Common.{◌≡◌, ℕ, suc, ◌+◌, ◌-◌, ◌*◌, ◌/◌, ◌<◌, ◌≤◌, Bool, true, false, ◌&&◌, eqb, ltb, List, [], ◌∷◌, length, get_or, sym, refl, ap, ◌∙◌, mul-le-mul_right, mod-lt, suc-mul, div-lt_iff_lt-mul, div-add-mod', zero-mul, arith}
+use Rattle.std.proofs.Common.{min, ◌≡◌, ℕ, suc, ◌+◌, ◌-◌, ◌*◌, ◌/◌, ◌%◌, ◌<◌, ◌≤◌, Bool, true, false, ◌&&◌, eqb, ltb, List, length, get_or, sym, refl, ap, ◌∙◌, mul-le-mul_right, mod-lt, suc-mul, div-lt_iff_lt-mul, div-add-mod', zero-mul, arith}
+use Rattle.std.proofs.lemmas.Grind.{div_ceil_times}
+use Rattle.std.proofs.lemmas.Nat.{le-div}
 use Rattle.std.proofs.lemmas.List.Sums.{count_by-le-length}
 use Rattle.std.proofs.lemmas.Bool.{and_parts, eqb-true, lt-ltb}
 use Rattle.meetings.specs.declared.numbers.Meeting.{Meeting}
@@ -11,7 +13,7 @@ use Rattle.fewest.specs.Counting.{count}
 use Rattle.fewest.specs.Plans.{none, Plan, Rooms, in_round}
 use Rattle.fewest.specs.Rounds.{meetings_of, numbers, largest, fewest}
 use Rattle.fewest.specs.Statements.{Suffices, Least, LeastOfPlans, FewestLeast, NoneWithoutMeetings, NoFewer}
-use Rattle.fewest.proofs.Numbers.{numbers_long, number_at}
+use Rattle.fewest.proofs.Numbers.{largest_within, numbers_long, number_at}
 use Rattle.fewest.proofs.Counting.{total_at_most, count_ext, count_all, count_one, count_places, by_rounds}
 
 -- a sum over rounds bounds what is counted, where every meeting has a round
@@ -47,13 +49,6 @@ module _ (r : ℕ) (ms : List Meeting) (xs : List ℕ) (plan : Plan r ms xs) whe
       few : (c : ℕ) → in_round c xs ≤ q → count (λ i. eqb (get_or xs i none) c) (length ms) ≤ q
       few c h = rw (← plan.each) (rw (count_places (λ x. eqb x c) xs none) at h)
 
-largest_within : (r : ℕ) (xs : List ℕ) → ((i : ℕ) → i < length xs → get_or xs i 0 ≤ r) → largest xs ≤ r
-largest_within r [] h = omega arith
-largest_within r (x ∷ xs) h =
-    let first = h 0 (omega arith) in
-    let rest = largest_within r xs (λ i l. h (suc i) (omega arith)) in
-    omega arith
-
 numbers_within : (s : Side) (d : Contents) (r : ℕ) → ((p : ℕ) → meetings_of s p d.meetings ≤ r) → largest (numbers s d) ≤ r
 numbers_within s d r each =
     let long = numbers_long s d in
@@ -65,6 +60,14 @@ rooms_within m q r some enough =
     let more = suc-mul r q in
     let fits : m + (q - 1) < suc r * q = omega arith in
     omega (arith, (div-lt_iff_lt-mul some).1 fits)
+
+-- it is what `div_ceil` answers
+pub rounded_up : (m q : ℕ) → 1 ≤ q → m / q + min 1 (m % q) ≡ (m + (q - 1)) / q
+rounded_up m q some =
+    let bounds = div_ceil_times m q some in
+    let most = rooms_within m q (m / q + min 1 (m % q)) some bounds.0 in
+    let least = le-div (m / q + min 1 (m % q)) (m + (q - 1)) q some (omega (arith, bounds.1)) in
+    omega (arith, most, least)
 
 rooms_enough : (m q r : ℕ) → 1 ≤ q → (m + (q - 1)) / q ≤ r → m ≤ r * q
 rooms_enough m q r some h =

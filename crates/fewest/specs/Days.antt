@@ -1,6 +1,5 @@
 -- Small days with their number of rounds: one table. Definitions and a statement; assumes nothing.
-use Rattle.std.specs.Prelude.{◌≡◌, ℕ, List, [], ◌∷◌}
-use Rattle.std.specs.List.{AllByRecursion}
+use Rattle.std.specs.Prelude.{◌≡◌, ℕ, All, List, [], ◌∷◌}
 use Rattle.meetings.specs.declared.numbers.Meeting.{Meeting}
 use Rattle.meetings.specs.Lists.{Contents, meeting}
 use Rattle.fewest.specs.Rounds.{fewest}
@@ -23,4 +22,4 @@ days =
     ∷ []
 
 abbrev pub DaysRight : Type 0
-DaysRight = AllByRecursion (λ w. fewest w.day ≡ w.rounds) days
+DaysRight = All (λ w. fewest w.day ≡ w.rounds) days

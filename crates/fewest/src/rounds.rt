@@ -1,5 +1,5 @@
 // The number of rounds.
-ghost use Rattle.std.specs.Prelude.{◌≡◌, ◌+◌, ◌-◌, ◌/◌, ◌^◌, ◌<◌, ◌≤◌, IfOk};
+ghost use Rattle.std.specs.Prelude.{◌≡◌, IfOk};
 ghost use Rattle.meetings.specs.Held.{contents};
 ghost use Rattle.meetings.specs.Refusals.{IfMemory};
 ghost use Rattle.fewest.specs.Rounds.{fewest};
@@ -9,26 +9,20 @@ use crate::tally::Tally;
 use meetings::{MeetingList, Refusal};
 use std::alloc::Global;
 
-// Meetings divided by rooms, rounded up.
-fn rounds_by_rooms(meetings: u16, rooms: u16) -> u16
-    requires some { 1 ≤ rooms }
-    requires few { meetings + rooms < 2 ^ 16 }
-    ensures { result ≡ (meetings + (rooms - 1)) / rooms }
-{
-    (meetings + (rooms - 1)) / rooms
-}
-
-// The larger of what the busiest group or station has, and of what the rooms ask for.
+// The larger of what the busiest group or station has, and of what the rooms ask for. By itself, so that a wrong number is
+// refused here, and not in the proof of the theorems on it.
+#[tactic(auto, using(crate::proofs::NoFewer::rounded_up))]
 fn number_of_rounds(heap: Global, list: &MeetingList) -> Result<u16, Refusal>
     ensures { IfMemory result (λ x. x ≡ fewest (contents list.now)) }
 {
     let tally = Tally::of(heap, list)?;
-    let by_rooms = rounds_by_rooms(list.meetings().len() as u16, list.rooms());
+    let by_rooms = (list.meetings().len() as u16).div_ceil(list.rooms());
     Ok(tally.busiest().max(by_rooms))
 }
 
 // The fewest rounds in which all meetings can be held. It is the least number that suffices for the busiest and for the
 // rooms, and no plan within the rooms has fewer. Only memory can be wanting.
+#[tactic(auto, using(crate::proofs::NoFewer::least_said))]
 pub fn fewest_rounds(heap: Global, list: &MeetingList) -> Result<u16, Refusal>
     ensures answer { IfMemory result (λ x. x ≡ fewest (contents list.now)) }
     ensures least { IfOk result (Least (contents list.now)) }

@@ -1,5 +1,5 @@
 // How many meetings each group and each station has.
-ghost use Rattle.std.specs.Prelude.{◌≡◌, ◌+◌, ◌^◌, ◌<◌, ◌≤◌, max, [], length, replicate, slice_index, slice_set};
+ghost use Rattle.std.specs.Prelude.{◌≡◌, ◌≤◌, max, [], length};
 ghost use Rattle.meetings.specs.Held.{contents};
 ghost use Rattle.meetings.specs.Lists.{Contents, Exist, most_meetings};
 ghost use Rattle.meetings.specs.declared.numbers.Side.TheVariants.{Groups, Stations};
@@ -17,16 +17,8 @@ pub struct Tally {
     stations: Vec<u16>,
 }
 
-// One meeting more for this party.
-fn count_one(numbers: &mut [u16], party: u16)
-    requires within { party < length numbers.old }
-    requires room { slice_index numbers.old party + 1 < 2 ^ 16 }
-    ensures { numbers.new ≡ slice_set numbers.old party (slice_index numbers.old party + 1) }
-{
-    numbers[party as usize] += 1;
-}
-
-// One pass over the meetings: each is counted for its group and for its station.
+// One pass over the meetings: each is counted for its group and for its station. By itself, over slices, so that a wrong
+// count is refused here, and not in a proof of the tally.
 fn count_meetings(meetings: &[Meeting], groups: &mut [u16], stations: &mut [u16])
     requires few { length meetings.now ≤ most_meetings }
     requires exist { Exist (length groups.old) (length stations.old) meetings.now }
@@ -36,36 +28,28 @@ fn count_meetings(meetings: &[Meeting], groups: &mut [u16], stations: &mut [u16]
     ensures stations { Tallied Stations meetings.now stations.new }
 {
     for meeting in meetings {
-        count_one(groups, meeting.group.0);
-        count_one(stations, meeting.station.0);
+        // `as`, since after a `From` the range of an index has to be proved once more.
+        groups[meeting.group.0 as usize] += 1;
+        stations[meeting.station.0 as usize] += 1;
     }
 }
 
 // The largest of these numbers, 0 where there are none.
+#[tactic(auto, using(crate::proofs::Numbers::largest_above, crate::proofs::Numbers::largest_within))]
 fn largest_of(numbers: &[u16]) -> u16
     ensures { result ≡ largest numbers.now }
 {
-    let mut best: u16 = 0;
-    for number in numbers {
-        best = best.max(*number);
-    }
-    best
+    numbers.iter().copied().max().unwrap_or(0)
 }
 
-// So many zeros.
-fn zeros(heap: Global, many: u16) -> Result<Vec<u16>, Refusal>
-    ensures { IfMemory result (λ v. v.items ≡ replicate many 0) }
-{
-    Ok(vec![in heap; 0u16; many as usize]?)
-}
-
+// A getter for each field: callers name the side that they want.
 impl Tally {
     // Counts the meetings of a list. Only memory can be wanting.
     pub fn of(heap: Global, list: &MeetingList) -> Result<Tally, Refusal>
         ensures { IfMemory result (Counts (contents list.now)) }
     {
-        let mut groups = zeros(heap, list.groups())?;
-        let mut stations = zeros(heap, list.stations())?;
+        let mut groups = vec![in heap; 0u16; usize::from(list.groups())]?;
+        let mut stations = vec![in heap; 0u16; usize::from(list.stations())]?;
         count_meetings(list.meetings(), &mut groups, &mut stations);
         Ok(Tally { groups, stations })
     }

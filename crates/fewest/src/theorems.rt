@@ -4,6 +4,7 @@ ghost use Rattle.fewest.specs.Days.{DaysRight};
 ghost use Rattle.fewest.specs.Statements.{Busiest, FewestLeast, NoneWithoutMeetings, NoFewer};
 
 // What is counted round by round is counted whole.
+#[tactic(auto, using(crate::proofs::Counting::by_rounds))]
 pub fn counted_by_rounds()
     ensures { ByRounds }
 {}
@@ -14,11 +15,13 @@ pub fn busiest_is_largest()
 {}
 
 // The number of rounds is the least that suffices for the busiest and for the rooms.
+#[tactic(auto, using(crate::proofs::NoFewer::fewest_least))]
 pub fn fewest_is_least()
     ensures { FewestLeast }
 {}
 
 // There are no rounds exactly where there are no meetings.
+#[tactic(auto, using(crate::proofs::NoFewer::none_without_meetings))]
 pub fn no_rounds_without_meetings()
     ensures { NoneWithoutMeetings }
 {}
@@ -29,6 +32,7 @@ pub fn no_plan_has_fewer()
 {}
 
 // The table of small days is right.
+#[tactic(auto, using(crate::proofs::Worked::days_right))]
 pub fn days_are_right()
     ensures { DaysRight }
 {}

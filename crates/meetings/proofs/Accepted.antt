@@ -10,7 +10,7 @@ use Rattle.meetings.specs.declared.numbers.Side.TheVariants.{Groups, Stations}
 use Rattle.meetings.specs.Bytes.{limit, count, party_at, meeting_at, meetings_at, bytes_of_meetings, bytes_of}
 use Rattle.meetings.specs.Lists.{Proper, Exist, Within, meeting, most_meetings}
 use Rattle.meetings.specs.Refusals.{accepted, then}
-use Rattle.meetings.specs.RoundTrips.{ReadThenWritten}
+use Rattle.meetings.specs.RoundTrips.{AllBytes, ReadThenWritten}
 
 pub limit_accepted : (x at y : ℕ) → limit x at ≡ accepted y → (y ≡ x) × Within y
 limit_accepted x at y e = (grind (arith, nat_tests), (grind (arith, nat_tests), grind (arith, nat_tests)))
@@ -127,6 +127,13 @@ whole_list bs n k q many ms long byte hn hk hq hm said =
       (rw (hn.0, hk.0, hq.0, low, high, tail) refl) ∙ sym (five_bytes bs long),
     )
 
+-- what the parts of the rule accept, put together
+pub parts_read : {bs : List ℕ} {n k q many : ℕ} {ms : List Meeting} → AllBytes bs → 5 ≤ length bs → limit (get_or bs 0 0) 0 ≡ accepted n → limit (get_or bs 1 0) 1 ≡ accepted k → limit (get_or bs 2 0) 2 ≡ accepted q → count (get_or bs 3 0) (get_or bs 4 0) ≡ accepted many → meetings_at bs n k many 5 [] ≡ accepted ms → Proper (record { groups = n; stations = k; rooms = q; meetings = ms }) × (bytes_of (record { groups = n; stations = k; rooms = q; meetings = ms }) ≡ bs)
+parts_read {bs} {n} {k} {q} {many} {ms} byte long hn hk hq hm hms =
+    whole_list bs n k q many ms long (byte 3)
+    (limit_accepted _ 0 _ hn) (limit_accepted _ 1 _ hk) (limit_accepted _ 2 _ hq) (count_accepted _ _ _ hm)
+    (meetings_accepted bs n k many 5 [] ms hms)
+
 pub read_then_written : ReadThenWritten
 read_then_written bs d byte e =
     let a = unless_refused (ltb (length bs) 5) 1 (length bs) _ d e in
@@ -136,7 +143,4 @@ read_then_written bs d byte e =
     let many = then_accepted (count (get_or bs 3 0) (get_or bs 4 0)) _ d q.2 in
     let ms = then_accepted (meetings_at bs n.0 k.0 many.0 5 []) _ d many.2 in
     let is : record { groups = n.0; stations = k.0; rooms = q.0; meetings = ms.0 } ≡ d = cc ms.2 in
-    rw (← is)
-    (whole_list bs n.0 k.0 q.0 many.0 ms.0 (ltb-false (length bs) 5 a.0) (byte 3)
-    (limit_accepted _ 0 _ n.1) (limit_accepted _ 1 _ k.1) (limit_accepted _ 2 _ q.1) (count_accepted _ _ _ many.1)
-    (meetings_accepted bs n.0 k.0 many.0 5 [] ms.0 ms.1))
+    rw (← is) (parts_read byte (ltb-false (length bs) 5 a.0) n.1 k.1 q.1 many.1 ms.1)

@@ -1,8 +1,8 @@
 -- What an answer says, and what a rule accepts that goes on from another. Assumes nothing.
-use Rattle.std.proofs.Common.{◌≡◌, ℕ, Bool, true, false, cond, IfOk, Ok, Err, Result, sym, refl, ⊎_elim, arith}
+use Rattle.std.proofs.Common.{◌≡◌, ℕ, Bool, true, false, cond, Ok, Err, Result, sym, refl, ⊎_elim, arith}
 use Rattle.meetings.specs.declared.refusal.Refusal.{Refusal}
 use Rattle.meetings.specs.declared.refusal.Refusal.TheVariants.{Memory}
-use Rattle.meetings.specs.Refusals.{Outcome, accepted, refused, then, Answers, IfMemory}
+use Rattle.meetings.specs.Refusals.{Outcome, accepted, refused, then, Answers}
 
 -- a value that is answered is what the rule says
 pub accepted_from_ok : {X T : Type 0} (means : X → T) (x : X) {o : Outcome T} → Answers means (Ok x) o → o ≡ accepted (means x)
@@ -19,8 +19,3 @@ then_accepted (refused number place) next y e = absurd (let z : ◌≡◌ {A = �
 pub unless_refused : {T : Type 0} (b : Bool) (number place : ℕ) (o : Outcome T) (y : T) → cond b (refused number place) o ≡ accepted y → (b ≡ false) × (o ≡ accepted y)
 unless_refused true number place o y e = absurd (let z : ◌≡◌ {A = ℕ} 0 1 = cc in omega arith)
 unless_refused false number place o y e = (refl, e)
-
--- what follows of a value that is given if there is memory
-pub made_if_memory : {X : Type 0} {P Q : X → Type 0} (r : Result X Refusal) → IfMemory r P → ((x : X) → P x → Q x) → IfOk r Q
-made_if_memory (Ok x) h f = f x h
-made_if_memory (Err e) h f = tt

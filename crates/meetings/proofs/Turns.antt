@@ -1,10 +1,7 @@
--- One turn of reading and of writing: what is left gives the whole, one meeting on. Assumes nothing.
-use Rattle.std.proofs.Common.{◌≡◌, ℕ, suc, ◌+◌, ◌-◌, ◌*◌, ◌<◌, ◌≤◌, List, [], ◌∷◌, ◌++◌, length, get_or, drop, sym, refl, ap, append_assoc, append-nil, arith}
-use Rattle.std.proofs.lemmas.List.{drop_all, drop_more}
+-- One turn of reading: what is left gives the whole, one meeting on. Assumes nothing.
+use Rattle.std.proofs.Common.{◌≡◌, ℕ, suc, ◌+◌, ◌-◌, ◌*◌, ◌<◌, List, [], ◌∷◌, ◌++◌, refl, ap, arith}
 use Rattle.meetings.specs.declared.numbers.Meeting.{Meeting}
-use Rattle.meetings.specs.declared.numbers.Side.TheVariants.{Groups, Stations}
-use Rattle.meetings.specs.Bytes.{meeting_at, meetings_at, bytes_of_meetings}
-use Rattle.meetings.specs.Lists.{party, nobody}
+use Rattle.meetings.specs.Bytes.{meeting_at, meetings_at}
 use Rattle.meetings.specs.Refusals.{Outcome, accepted, refused, then}
 
 -- so many left, of which one is read
@@ -22,11 +19,3 @@ module _ (bs : List ℕ) (n k many i : ℕ) (came : List Meeting) {whole : Outco
   refused_one e =
       let less : many - i ≡ suc (many - (i + 1)) = omega arith in
       rw (← inv, one_less bs n k (many - i) (many - (i + 1)) (5 + 2 * i) came less, ← e) refl
-
--- one meeting more is written
-pub write_one : (done now : List ℕ) (ms : List Meeting) (i : ℕ) {whole : List ℕ} → i < length ms → done ++ bytes_of_meetings (drop i ms) ≡ whole → now ≡ done ++ party Groups (get_or ms i nobody) ∷ party Stations (get_or ms i nobody) ∷ [] → now ++ bytes_of_meetings (drop (i + 1) ms) ≡ whole
-write_one done now ms i h inv e =
-    rw (e, append_assoc, ← inv) (ap (λ l. done ++ bytes_of_meetings l) (sym (drop_more ms i nobody h)))
-
-pub write_all : (done : List ℕ) (ms : List Meeting) (i : ℕ) {whole : List ℕ} → length ms ≤ i → done ++ bytes_of_meetings (drop i ms) ≡ whole → done ≡ whole
-write_all done ms i h inv = rw (← inv, drop_all i ms h) (sym (append-nil done))

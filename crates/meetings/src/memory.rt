@@ -13,6 +13,7 @@ impl From<AllocError> for Refusal {
     }
 }
 
+// Two, since std tells of a push that fails by another type: it hands the value back.
 impl<T: Drop> From<AllocFailed<T>> for Refusal {
     ghost from_gives = { λ _ r. r ≡ Memory };
 

@@ -21,7 +21,7 @@ const HEAD: usize = 5;
 fn within_limits(number: u8, which: Limit) -> Result<u16, Refusal>
     ensures { outcome (λ x. x) result ≡ limit number (place_of_limit which) }
 {
-    if number == 0 || number > MOST {
+    if !(1..=MOST).contains(&number) {
         return Err(Refusal::OutOfLimits(which));
     }
     Ok(u16::from(number))
@@ -31,71 +31,82 @@ fn within_limits(number: u8, which: Limit) -> Result<u16, Refusal>
 fn meeting_count(low: u8, high: u8) -> Result<u16, Refusal>
     ensures { outcome (λ x. x) result ≡ count low high }
 {
-    let many = u16::from(low) + 256 * u16::from(high);
+    let many = u16::from_le_bytes([low, high]);
     if many > MOST_MEETINGS {
         return Err(Refusal::TooManyMeetings);
     }
     Ok(many)
 }
 
-// A group or a station: the byte at this place, where there is one, below the number of those that exist.
-fn party(bytes: &[u8], at: usize, many: u16) -> Result<u16, Refusal>
-    ensures { outcome (λ x. x) result ≡ party_at bytes.now at many }
-{
-    if at >= bytes.len() {
-        return Err(Refusal::Length(bytes.len()));
-    }
-    let number = u16::from(bytes[at]);
-    if number >= many {
-        return Err(Refusal::NoSuchParty(at));
-    }
-    Ok(number)
-}
-
-fn meeting(bytes: &[u8], at: usize, groups: u16, stations: u16) -> Result<Meeting, Refusal>
-    requires { at + 1 < 2 ^ 64 }
-    ensures { outcome (λ x. x) result ≡ meeting_at bytes.now at groups stations }
-{
-    let group = Group(party(bytes, at, groups)?);
-    let station = Station(party(bytes, at + 1, stations)?);
-    Ok(Meeting { group, station })
-}
-
-// So many meetings, up to the end of the bytes.
-fn meetings(
-    heap: Global,
-    bytes: &[u8],
+// The bytes of a list, and how many groups and stations its meetings may name.
+#[derive(Clone, Copy)]
+struct Source<'a> {
+    bytes: &'a [u8],
     groups: u16,
     stations: u16,
-    many: u16,
-) -> Result<Vec<Meeting>, Refusal>
-    ensures { Answers vec_items result (meetings_at bytes.now groups stations many 5 []) }
-{
-    let mut read = Vec::new(heap);
-    for i in 0..many {
-        let next = meeting(bytes, HEAD + 2 * i as usize, groups, stations)?;
-        read.push(next)?;
+}
+
+impl Source<'_> {
+    // A group or a station: the byte at this place, where there is one, below the number of those that exist.
+    fn party(&self, at: usize, many: u16) -> Result<u16, Refusal>
+        ensures { outcome (λ x. x) result ≡ party_at self.now.bytes.now at many }
+    {
+        let Some(byte) = self.bytes.get(at) else {
+            return Err(Refusal::Length(self.bytes.len()));
+        };
+        let number = u16::from(*byte);
+        if number >= many {
+            return Err(Refusal::NoSuchParty(at));
+        }
+        Ok(number)
     }
-    let end = HEAD + 2 * many as usize;
-    if bytes.len() > end {
-        return Err(Refusal::Length(end));
+
+    fn meeting(&self, at: usize) -> Result<Meeting, Refusal>
+        requires { at + 1 < 2 ^ 64 }
+        ensures { outcome (λ x. x) result ≡ meeting_at self.now.bytes.now at self.now.groups self.now.stations }
+    {
+        let group = Group(self.party(at, self.groups)?);
+        let station = Station(self.party(at + 1, self.stations)?);
+        Ok(Meeting { group, station })
     }
-    Ok(read)
+
+    // So many meetings, up to the end of the bytes.
+    #[tactic(auto, using(crate::proofs::Turns::read_one))]
+    fn meetings(&self, heap: Global, many: u16) -> Result<Vec<Meeting>, Refusal>
+        ensures { Answers vec_items result (meetings_at self.now.bytes.now self.now.groups self.now.stations many 5 []) }
+    {
+        let mut read = Vec::new(heap);
+        // By number: chunks of two bytes would still need their places, and the last may be one byte.
+        for i in 0..many {
+            read.push(self.meeting(HEAD + 2 * usize::from(i))?)?;
+        }
+        let end = HEAD + 2 * usize::from(many);
+        if self.bytes.len() > end {
+            return Err(Refusal::Length(end));
+        }
+        Ok(read)
+    }
 }
 
 // The list that the bytes say, or what is wrong with them first.
+#[tactic(auto, using(crate::proofs::Accepted::parts_read))]
 pub fn read(heap: Global, bytes: &[u8]) -> Result<MeetingList, Refusal>
     ensures answer { Answers contents result (read_list bytes.now) }
     ensures back { IfOk result (λ l. bytes_of (contents l) ≡ bytes.now) }
 {
-    if bytes.len() < HEAD {
+    let [groups, stations, rooms, low, high, ..] = *bytes else {
         return Err(Refusal::Length(bytes.len()));
-    }
-    let groups = within_limits(bytes[0], Limit::Groups)?;
-    let stations = within_limits(bytes[1], Limit::Stations)?;
-    let rooms = within_limits(bytes[2], Limit::Rooms)?;
-    let many = meeting_count(bytes[3], bytes[4])?;
-    let meetings = meetings(heap, bytes, groups, stations, many)?;
+    };
+    let groups = within_limits(groups, Limit::Groups)?;
+    let stations = within_limits(stations, Limit::Stations)?;
+    let rooms = within_limits(rooms, Limit::Rooms)?;
+    let many = meeting_count(low, high)?;
+    let source = Source {
+        bytes,
+        groups,
+        stations,
+    };
+    let meetings = source.meetings(heap, many)?;
     Ok(MeetingList {
         groups,
         stations,

@@ -47,7 +47,7 @@ pub enum Refusal {
 }
 
 impl Refusal {
-    // The number of the reason, as programs print it.
+    // The number of the reason, as programs print it. A match, since a variant that holds something has no discriminant.
     pub fn number(&self) -> u8
         ensures { result ≡ number_of self.now }
     {
@@ -72,20 +72,17 @@ impl Refusal {
     {
         match *self {
             Refusal::Length(at) => at,
-            Refusal::OutOfLimits(Limit::Groups) => 0,
-            Refusal::OutOfLimits(Limit::Stations) => 1,
-            Refusal::OutOfLimits(Limit::Rooms) => 2,
+            Refusal::OutOfLimits(which) => which as usize,
             Refusal::TooManyMeetings => 3,
             Refusal::NoSuchParty(at) => at,
-            Refusal::ShortSlice(Lent::Rounds) => 0,
-            Refusal::ShortSlice(Lent::GroupRows) => 1,
-            Refusal::ShortSlice(Lent::StationRows) => 2,
+            Refusal::ShortSlice(which) => which as usize,
             Refusal::BadChange(at) => at,
-            Refusal::NoSuchRound(MeetingId(i)) => i as usize,
-            Refusal::Clash(Side::Groups, MeetingId(i)) => i as usize,
+            Refusal::NoSuchRound(MeetingId(i)) => usize::from(i),
+            Refusal::Clash(Side::Groups, MeetingId(i)) => usize::from(i),
+            // `as`, since after a `From` it is not proved that the sum fits.
             Refusal::Clash(Side::Stations, MeetingId(i)) => i as usize + 8192,
-            Refusal::Crowded(Round(c)) => c as usize,
-            Refusal::NotFewest(rounds) => rounds as usize,
+            Refusal::Crowded(Round(c)) => usize::from(c),
+            Refusal::NotFewest(rounds) => usize::from(rounds),
             Refusal::Memory => 0,
         }
     }

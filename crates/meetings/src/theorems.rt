@@ -9,16 +9,19 @@ pub fn written_as_read()
 {}
 
 // What a proper list is written as is accepted, and says that list.
+#[tactic(auto, using(crate::proofs::Written::written_then_read))]
 pub fn read_as_written()
     ensures { WrittenThenRead }
 {}
 
 // Bytes that are accepted have no fault, and a refusal tells the first: no fault shows at a byte before it.
+#[tactic(auto, using(crate::proofs::FirstFault::first_fault))]
 pub fn refused_for_the_first_fault()
     ensures { FirstFault }
 {}
 
 // A refusal is told by its number and its place.
+#[tactic(auto, using(crate::proofs::ToldApart::told_apart))]
 pub fn refusals_told_apart()
     ensures { ToldApart }
 {}

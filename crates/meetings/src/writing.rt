@@ -13,20 +13,19 @@ pub fn write(heap: Global, list: &MeetingList) -> Result<Vec<u8>, Refusal>
     ensures answer { IfMemory result (λ v. v.items ≡ bytes_of (contents list.now)) }
     ensures back { IfOk result (λ v. read_list v.items ≡ accepted (contents list.now)) }
 {
-    let mut bytes = Vec::new(heap);
     let meetings = list.meetings();
-    let many = meetings.len();
+    let [low, high] = (meetings.len() as u16).to_le_bytes();
     let head = [
         list.groups as u8,
         list.stations as u8,
         list.rooms as u8,
-        (many % 256) as u8,
-        (many / 256) as u8,
+        low,
+        high,
     ];
+    let mut bytes = Vec::new(heap);
     bytes.extend_from_slice(&head)?;
     for meeting in meetings {
-        let pair = [meeting.group.0 as u8, meeting.station.0 as u8];
-        bytes.extend_from_slice(&pair)?;
+        bytes.extend_from_slice(&[meeting.group.0 as u8, meeting.station.0 as u8])?;
     }
     Ok(bytes)
 }
