@@ -1,10 +1,10 @@
 -- Rows stay the rows of the rounds where one entry is written as one meeting changes its round. Assumes nothing.
-use Rattle.std.proofs.Common.{◌≡◌, ℕ, ◌+◌, ◌*◌, ◌/◌, ◌%◌, ◌<◌, List, length, get_or, drop, set, sym, refl, ap, ◌∙◌, ⊎_elim, mul-le-mul_right, suc-mul, arith}
+use Rattle.std.proofs.Common.{◌≡◌, ℕ, ◌+◌, ◌*◌, ◌/◌, ◌%◌, ◌<◌, List, length, get_or, set, sym, refl, ap, ◌∙◌, ⊎_elim, mul-le-mul_right, suc-mul, arith}
 use Rattle.std.proofs.lemmas.Nat.{div-mul-add, mod-mul-add}
-use Rattle.std.proofs.lemmas.List.{get_or-set_same, get_or-set_other, length-set, drop-set-lt}
+use Rattle.std.proofs.lemmas.List.{get_or-set_same, get_or-set_other, length-set}
 use Rattle.std.proofs.lemmas.Bool.{cases_eq}
 use Rattle.fewest.specs.Plans.{none}
-use Rattle.chains.specs.Rows.{Entry, Rows, Beyond}
+use Rattle.chains.specs.Rows.{Entry, Rows}
 
 -- two places of the rows are the same only in the same row at the same round
 pub same_place : (w p c p' c' : ℕ) → c < w → c' < w → p * w + c ≡ p' * w + c' → (p ≡ p') × (c ≡ c')
@@ -57,10 +57,3 @@ module _ (m : ℕ) (party rnd rnd' : ℕ → ℕ) (i : ℕ) (else : (j : ℕ) �
         is = λ is_some. let some = old.is is_some in (some.0, some.1, else x (λ same. apart (sym some.1 ∙ ap party same, sym some.2 ∙ ap rnd same ∙ here)) ∙ some.2);
         only = λ j hj u v. ⊎_elim (λ same. absurd (omega (arith, r.narrow, ap rnd' same))) (λ other. old.only j hj u (sym (else j other) ∙ v)) (cases_eq j i);
       })
-
--- what is written lies in the rows in use
-pub beyond_set : (n w p c y : ℕ) (rows rows' : List ℕ) → p < n → c < w → rows' ≡ set rows (p * w + c) y → Beyond n w rows rows'
-beyond_set n w p c y rows rows' hp hc e = (
-  ap length e ∙ length-set rows (p * w + c) y,
-  ap (drop (n * w)) e ∙ drop-set-lt (n * w) rows (p * w + c) y (place_before n w p c hp hc),
-)

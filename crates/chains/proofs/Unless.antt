@@ -7,9 +7,6 @@ module _ {T : Type 0} (out : ℕ) (number : T → ℕ) (o : Option T) (x : ℕ) 
   pub some_is : (v : T) → Unless out number o x → o ≡ Some v → (number v ≡ x) × (x ≡ out → ⊥)
   some_is v u e = subst (λ o'. Unless out number o' x) e u
 
-  pub none_is : Unless out number o x → o ≡ None → x ≡ out
-  none_is u e = subst (λ o'. Unless out number o' x) e u
-
 -- there is an answer where there is a number
 pub there_is : {T : Type 0} (out : ℕ) (number : T → ℕ) (o : Option T) (x : ℕ) → Unless out number o x → (x ≡ out → ⊥) → IsSome o
 there_is out number None x u some = absurd (some u)

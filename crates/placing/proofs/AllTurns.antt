@@ -1,5 +1,5 @@
 -- One turn of putting in all: what is left gives, by the rule, what the whole gives. Assumes nothing.
-use Rattle.std.proofs.Common.{◌≡◌, ℕ, suc, ◌+◌, ◌-◌, ◌*◌, ◌<◌, ◌≤◌, List, [], length, replicate, sym, refl, ap, ◌∙◌, suc-mul, arith}
+use Rattle.std.proofs.Common.{◌≡◌, ℕ, suc, ◌+◌, ◌-◌, ◌*◌, ◌<◌, ◌≤◌, List, [], length, sym, refl, ap, ◌∙◌, suc-mul, arith}
 use Rattle.meetings.specs.declared.numbers.Meeting.{Meeting}
 use Rattle.fewest.specs.Plans.{none}
 use Rattle.chains.specs.declared.board.Board.{Board}
@@ -7,12 +7,12 @@ use Rattle.chains.specs.declared.found.Found.{Found}
 use Rattle.chains.specs.declared.shapes.Shape.{Shape}
 use Rattle.chains.specs.Boards.{Becomes, meetings_on, rounds_on}
 use Rattle.chains.specs.Finding.{Finds, Unused}
-use Rattle.chains.proofs.BoardKept.{becomes_same, becomes_then}
+use Rattle.chains.proofs.BoardKept.{becomes_then}
 use Rattle.chains.proofs.ChainTurns.{finds_then}
 use Rattle.placing.specs.OnBoard.{PutsOn}
 use Rattle.placing.specs.Putting.{Placed, placed, put, put_from, put_all}
 use Rattle.placing.specs.Statements.{PutIn, Ready}
-use Rattle.placing.proofs.PutAll.{PutBefore, none_before, one_before, put_from_more}
+use Rattle.placing.proofs.PutAll.{PutBefore, one_before, put_from_more}
 
 -- before meeting i: the board d has become e, with so many looks
 pub record Putting (r : ℕ) (d e : Board) (v w : Found) (i looks : ℕ) : Type 0 where
@@ -27,24 +27,6 @@ finds_same v m u = record { among = refl; list = u.empty }
 
 pub still_unused : (v w : Found) (m : ℕ) → Unused v m → Finds v w [] → Unused w m
 still_unused v w m u f = record { empty = f.list; all = f.among ∙ u.all }
-
-ap_before : (n k r : ℕ) (ms : List Meeting) (xs : List ℕ) → xs ≡ replicate (length ms) none → PutBefore n k r ms 0 (placed (replicate (length ms) none) 0) → PutBefore n k r ms 0 (placed xs 0)
-ap_before n k r ms xs out before = rw out before
-
-pub putting_starts : (r : ℕ) (d : Board) (v : Found) → r ≤ none → rounds_on d ≡ replicate (length (meetings_on d)) none → Unused v (length (meetings_on d)) → Putting r d d v v 0 0
-putting_starts r d v le out u = record {
-  before = ap_before d.shape.groups d.shape.stations r (meetings_on d) (rounds_on d) out (none_before d.shape.groups d.shape.stations r ms le);
-  board = becomes_same d (rounds_on d) refl;
-  rule = ap (λ xs. put_from r ms (length ms - 0) 0 (placed xs 0)) out ∙ ap (λ n. put_from r ms n 0 (placed (replicate (length ms) none) 0)) whole;
-  forgotten = finds_same v (length ms) u;
-  few = omega arith;
-}
-  where
-    ms : List Meeting
-    ms = meetings_on d
-
-    whole : length (meetings_on d) - 0 ≡ length (meetings_on d)
-    whole = omega arith
 
 -- what is said of the meetings and the shape of one board, said of another with the same
 pub ready_also : (z z' : Shape) (r : ℕ) (ms ms' : List Meeting) (xs : List ℕ) (i : ℕ) → z' ≡ z → ms' ≡ ms → Ready z.groups z.stations r ms xs i → Ready z'.groups z'.stations r ms' xs i

@@ -1,6 +1,5 @@
 -- Each turn puts in one meeting.
-use Rattle.std.proofs.Common.{◌+◌, ◌*◌, ◌<◌, ◌≤◌, length, arith, mul-le-mul_right}
-use Rattle.fewest.specs.Plans.{none}
+use Rattle.std.proofs.Common.{◌<◌, length, arith}
 use Rattle.chains.specs.Boards.{meetings_on, rounds_on}
 use Rattle.chains.proofs.RowsRead.{side_rows}
 use Rattle.placing.proofs.AllTurns.{putting_more, ready_also, still_unused}
@@ -21,12 +20,6 @@ put_in-looks-requires c =
       station_width = rw at.board.shape c.requires.station_width;
       unused = rw at.board.meetings (still_unused c.args.found.now _ _ c.requires.unused at.forgotten);
     }
-
-pub overflow_add-looks : goal.overflow_add-looks
-overflow_add-looks c =
-    let below : c.loop-meeting.meeting ≤ none = omega (arith, c.loop-meeting-test.true, c.args.board.now.held.few) in
-    let few : c.loop-meeting.meeting * (1 + none) ≤ none * (1 + none) = mul-le-mul_right (1 + none) below in
-    omega (arith, c.loop-meeting.invariant.few, c.put_in-looks.ensures.few)
 
 pub loop-meeting-preserved : goal.loop-meeting-preserved
 loop-meeting-preserved c =
