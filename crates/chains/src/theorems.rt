@@ -2,6 +2,7 @@
 ghost use Rattle.chains.specs.Statements.{ChainWhole, Ends, ExchangeCounts, ExchangeKeeps, NeverComes, OneBoard, OthersStay, Parts, Short};
 
 // Following ends by itself.
+#[tactic(auto, using(crate::proofs::Walks::ends))]
 pub fn following_ends()
     ensures { Ends }
 {}
@@ -37,11 +38,13 @@ pub fn others_keep_their_rounds()
 {}
 
 // Each of the two rounds gets what was in the other of the part, and loses what was in it.
+#[tactic(auto, using(crate::proofs::Exchange::exchange_counts))]
 pub fn exchange_counts()
     ensures { ExchangeCounts }
 {}
 
 // The rounds say all that a board holds.
+#[tactic(auto, using(crate::proofs::OneBoard::one_board))]
 pub fn rounds_say_all()
     ensures { OneBoard }
 {}

@@ -17,6 +17,7 @@ pub fn all_meetings_are_put_in()
 {}
 
 // So many rounds are enough as the busiest has meetings.
+#[tactic(auto, using(crate::proofs::PutAll::enough))]
 pub fn rounds_are_enough()
     ensures { Enough }
 {}
