@@ -5,7 +5,7 @@ use Rattle.chains.specs.Boards.{meetings_on, rounds_on}
 use Rattle.chains.specs.Given.{number_of}
 use Rattle.chains.proofs.BoardKept.{becomes_same, becomes_then, becomes_also, proper_cases}
 use Rattle.chains.proofs.Members.{place_held}
-use Rattle.chains.proofs.Shifts.{shifted_start, shifted_all, turn_free, turn_gives, turn_leaves}
+use Rattle.chains.proofs.Shifts.{shifted_start, turn_free, turn_gives, turn_leaves}
 use Rattle.chains.proofs.board.Board.shift.Goals as goal
 use Rattle.chains.proofs.board.Board.shift.Goals.{then-is_in, else-is_in}
 
@@ -44,7 +44,3 @@ loop-member-preserved c =
       | then-is_in w ↦ rw w.self-is (becomes_then _ _ _ _ _ _ so_far w.give.ensures (turn_gives u v t is (rounds_on d) _ c.loop-member-test.true so_far.rounds here (w.if-is_in.ensures.0 refl)))
       | else-is_in w ↦ rw w.self-is (becomes_also _ _ _ _ so_far (sym so_far.rounds ∙ turn_leaves u v t is (rounds_on d) _ c.loop-member-test.true so_far.rounds (λ e. both_ways false refl (w.if-is_in.ensures.1 e))))
     ]
-
-pub returns : goal.returns
-returns c =
-    becomes_also _ _ _ _ c.loop-member.invariant (shifted_all (number_of c.args.from) (number_of c.args.to) c.loop-member.member-index c.args.members.now c.args.self.now.rounds.now c.loop-member-test.false)
