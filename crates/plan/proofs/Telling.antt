@@ -29,7 +29,3 @@ told_exactly l xs xs' gs gs' ss ss' er eg es (Ok p) answer lent =
     let held : xs' ≡ (put_all (fewest d) d.meetings).rounds = lent.rounds ∙ ap (λ l. (put_all (fewest d) d.meetings).rounds ++ l) (drop_all (length d.meetings) xs (omega arith)) ∙ append-nil _ in
     cc
 told_exactly l xs xs' gs gs' ss ss' er eg es (Err e) answer lent = only_memory e _ _ (lent_enough l (length xs) (length gs) (length ss) er eg es) answer
-
--- entries for so many parties and rounds
-pub rows_long : (xs : List ℕ) (n r n' r' : ℕ) → xs ≡ replicate (n * r) none → n ≡ n' → r ≡ r' → length xs ≡ n' * r'
-rows_long xs n r n' r' e en er = ap length e ∙ length-replicate (n * r) none ∙ ap (λ x. x * r) en ∙ ap (λ x. n' * x) er

@@ -1,23 +1,20 @@
 // Reading and writing lists: each refusal with its place, at both sides of each limit.
-use meetings::{Refusal, read, write};
+use meetings::{Group, Meeting, Refusal, Station, read, write};
 use std::alloc::{AllocError, Global};
 use std::test::Fail;
 
 // The number and the place of a refusal, or None where the bytes are accepted.
 fn told(heap: Global, bytes: &[u8]) -> Option<(u8, usize)> {
-    match read(heap, bytes) {
-        Ok(_) => None,
-        Err(refusal) => Some((refusal.number(), refusal.place())),
-    }
+    let refusal = read(heap, bytes).err()?;
+    Some((refusal.number(), refusal.place()))
 }
 
 // A list of so many meetings of one pair.
 fn one_pair(heap: Global, many: u16) -> Result<Vec<u8>, AllocError> {
     let mut bytes = Vec::new(heap);
-    bytes.extend_from_slice(&[1, 1, 1, (many % 256) as u8, (many / 256) as u8])?;
-    for _ in 0..many {
-        bytes.extend_from_slice(&[0, 0])?;
-    }
+    let [low, high] = many.to_le_bytes();
+    bytes.extend_from_slice(&[1, 1, 1, low, high])?;
+    bytes.resize(5 + 2 * usize::from(many), 0)?;
     Ok(bytes)
 }
 
@@ -31,9 +28,9 @@ fn a_small_list(rt: HostRuntime) -> Result<(), Fail> {
     assert_eq!(rt; list.stations(), 2);
     assert_eq!(rt; list.rooms(), 4);
     let meetings = list.meetings();
-    assert!(rt; meetings.len() == 2);
-    assert_eq!(rt; (meetings[0].group.0, meetings[0].station.0), (2, 1));
-    assert_eq!(rt; (meetings[1].group.0, meetings[1].station.0), (0, 0));
+    assert_eq!(rt; meetings.len(), 2);
+    assert_eq!(rt; meetings[0], Meeting { group: Group(2), station: Station(1) });
+    assert_eq!(rt; meetings[1], Meeting { group: Group(0), station: Station(0) });
     let bytes = write(rt.alloc(), &list)?;
     assert_eq!(rt; bytes.as_slice(), SMALL.as_slice());
     Ok(())

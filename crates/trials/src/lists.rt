@@ -6,7 +6,6 @@ use std::alloc::{AllocError, Global};
 
 // The bytes of a list, its meetings given by their groups and their stations. A number of meetings that two bytes do not hold
 // is cut.
-#[tactic(auto, using(crate::proofs::Turns::pair_more, crate::proofs::Turns::all_pairs))]
 pub fn bytes_of(
     heap: Global,
     groups: u8,

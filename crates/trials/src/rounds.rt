@@ -61,12 +61,10 @@ fn five_by_five(rt: HostRuntime) -> Result<(), Fail> {
 #[test]
 fn largest_lists(rt: HostRuntime) -> Result<(), Fail> {
     let heap = rt.alloc();
-    let mut pair = Vec::new(heap);
-    let mut spread = Vec::new(heap);
-    for i in 0..4000u16 {
-        pair.push((0u8, 0u8))?;
-        spread.push(((i % 120) as u8, ((i + i / 120) % 120) as u8))?;
-    }
+    let pair = vec![in heap; (0u8, 0u8); 4000]?;
+    let spread = (0..4000u16)
+        .map(|i| ((i % 120) as u8, ((i % 120 + i / 120) % 120) as u8))
+        .collect::<Vec<_>>(heap)?;
     let pair_bytes = bytes_of(heap, 1, 1, 120, &pair)?;
     assert_eq!(rt; rounds_of(heap, &pair_bytes)?, 4000);
     let spread_bytes = bytes_of(heap, 120, 120, 120, &spread)?;
