@@ -1,14 +1,13 @@
 -- The report is that of the list: slices just as long as the rounds ask for are never refused, and they hold the rule's rounds.
 -- Assumes nothing.
-use Rattle.std.proofs.Common.{◌≡◌, ℕ, ◌*◌, List, ◌++◌, length, replicate, Ok, Err, Result, sym, ap, ◌∙◌, ⊎_elim, arith, MatchResult}
-use Rattle.std.proofs.lemmas.List.{append-nil, drop_all, length-replicate}
+use Rattle.std.proofs.Common.{◌≡◌, ℕ, ◌*◌, List, ◌++◌, length, Ok, Err, Result, sym, ap, ◌∙◌, ⊎_elim, arith, MatchResult}
+use Rattle.std.proofs.lemmas.List.{append-nil, drop_all}
 use Rattle.meetings.specs.declared.list.MeetingList.{MeetingList}
 use Rattle.meetings.specs.declared.refusal.Refusal.{Refusal}
 use Rattle.meetings.specs.declared.refusal.Refusal.TheVariants.{Memory}
 use Rattle.meetings.specs.Held.{contents}
 use Rattle.meetings.specs.Refusals.{Answers, IfMemory, Outcome, accepted}
 use Rattle.meetings.proofs.Outcomes.{accepted_from_ok}
-use Rattle.fewest.specs.Plans.{none}
 use Rattle.fewest.specs.Rounds.{fewest}
 use Rattle.placing.specs.declared.planned.Planned.{Planned}
 use Rattle.placing.specs.Lent.{PlacedLent, Unchanged, place_all}

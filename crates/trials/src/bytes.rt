@@ -29,8 +29,20 @@ fn a_small_list(rt: HostRuntime) -> Result<(), Fail> {
     assert_eq!(rt; list.rooms(), 4);
     let meetings = list.meetings();
     assert_eq!(rt; meetings.len(), 2);
-    assert_eq!(rt; meetings[0], Meeting { group: Group(2), station: Station(1) });
-    assert_eq!(rt; meetings[1], Meeting { group: Group(0), station: Station(0) });
+    assert_eq!(rt;
+        meetings[0],
+        Meeting {
+            group: Group(2),
+            station: Station(1)
+        }
+    );
+    assert_eq!(rt;
+        meetings[1],
+        Meeting {
+            group: Group(0),
+            station: Station(0)
+        }
+    );
     let bytes = write(rt.alloc(), &list)?;
     assert_eq!(rt; bytes.as_slice(), SMALL.as_slice());
     Ok(())
@@ -38,8 +50,9 @@ fn a_small_list(rt: HostRuntime) -> Result<(), Fail> {
 
 #[test]
 fn each_truncation_is_refused_at_its_length(rt: HostRuntime) {
+    // the lengths themselves are tried, so they are counted
     for length in 0..SMALL.len() {
-        assert_eq!(rt; told(rt.alloc(), &SMALL[0..length]), Some((1, length)));
+        assert_eq!(rt; told(rt.alloc(), &SMALL[..length]), Some((1, length)));
     }
     assert_eq!(rt; told(rt.alloc(), &SMALL), None);
 }
@@ -58,6 +71,7 @@ fn bytes_that_go_on_are_refused_at_the_first_too_many(rt: HostRuntime) {
 
 #[test]
 fn head_at_its_limits(rt: HostRuntime) {
+    // the places themselves are tried, so they are counted
     for at in 0..3usize {
         for number in [0u8, 1, 120, 121, 255] {
             let mut head = [1u8, 1, 1, 0, 0];
@@ -78,7 +92,7 @@ fn meetings_at_their_limit(rt: HostRuntime) -> Result<(), Fail> {
         let bytes = one_pair(rt.alloc(), many)?;
         assert_eq!(rt; told(rt.alloc(), &bytes), None);
         let list = read(rt.alloc(), &bytes)?;
-        assert_eq!(rt; list.meetings().len(), many as usize);
+        assert_eq!(rt; list.meetings().len(), usize::from(many));
         let back = write(rt.alloc(), &list)?;
         assert_eq!(rt; back.as_slice(), bytes.as_slice());
     }
@@ -92,6 +106,7 @@ fn meetings_at_their_limit(rt: HostRuntime) -> Result<(), Fail> {
 #[test]
 fn parties_at_their_limits(rt: HostRuntime) {
     for many in [1u8, 2, 120] {
+        // a place at the head, and the same place in the meeting
         for at in 0..2usize {
             let mut bytes = [1, 1, 1, 1, 0, 0, 0];
             bytes[at] = many;

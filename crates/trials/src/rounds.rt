@@ -7,6 +7,7 @@ use meetings::{Refusal, read};
 use std::alloc::Global;
 use std::test::Fail;
 
+// As the program plan has it, of which nothing can be imported.
 fn rounds_of(heap: Global, bytes: &[u8]) -> Result<u16, Refusal> {
     let list = read(heap, bytes)?;
     fewest_rounds(heap, &list)
@@ -44,12 +45,9 @@ fn each_party_is_counted(rt: HostRuntime) -> Result<(), Fail> {
 #[test]
 fn five_by_five(rt: HostRuntime) -> Result<(), Fail> {
     let heap = rt.alloc();
-    let mut meetings = Vec::new(heap);
-    for group in 0..5u8 {
-        for station in 0..5u8 {
-            meetings.push((group, station))?;
-        }
-    }
+    let meetings = (0..5u8)
+        .flat_map(|group| (0..5u8).map(move |station| (group, station)))
+        .collect::<Vec<_>>(heap)?;
     let in_five = bytes_of(heap, 5, 5, 5, &meetings)?;
     assert_eq!(rt; rounds_of(heap, &in_five)?, 5);
     let in_four = bytes_of(heap, 5, 5, 4, &meetings)?;

@@ -52,14 +52,10 @@ fn rows(
     length: usize,
 ) -> Result<Vec<u16>, AllocError> {
     let width = u16::try_from(length / usize::from(parties.max(1))).unwrap_or(u16::MAX);
-    let mut entries = Vec::new(heap);
-    for party in 0..parties {
-        for round in 0..width {
-            let met = plan.met(side, party, Round(round));
-            entries.push(met.map_or(NONE, |placed| placed.number.0))?;
-        }
-    }
-    Ok(entries)
+    (0..parties)
+        .flat_map(|party| (0..width).map(move |round| plan.met(side, party, Round(round))))
+        .map(|met| met.map_or(NONE, |placed| placed.number.0))
+        .collect(heap)
 }
 
 impl Slices {

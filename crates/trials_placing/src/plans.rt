@@ -35,7 +35,6 @@ fn all_fit(meetings: &[Meeting], rounds: &[u16], many: u16) -> bool
 }
 
 // The first rounds, one for each meeting, are a plan with so many rounds. What lies beyond them does not matter.
-#[tactic(auto, using(crate::proofs::Comparing::plan_if_each_fits))]
 pub fn is_plan(meetings: &[Meeting], rounds: &[u16], many: u16) -> bool
     ensures { IsTrue result ↔ Plan many meetings.now (take (length meetings.now) rounds.now) }
 {

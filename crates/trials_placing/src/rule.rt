@@ -18,7 +18,7 @@ fn held(meetings: &[Meeting], side: Side, one: Meeting) -> usize {
         .count()
 }
 
-// The lowest number of rounds that has a place for each of so many meetings.
+// The lowest number of rounds that has a place for each of so many meetings. It is searched, since the library divides.
 fn for_rooms(meetings: usize, rooms: u16) -> u16 {
     (0..u16::MAX)
         .find(|rounds| usize::from(*rounds).saturating_mul(usize::from(rooms)) >= meetings)
