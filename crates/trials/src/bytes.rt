@@ -18,6 +18,13 @@ fn one_pair(heap: Global, many: u16) -> Result<Vec<u8>, AllocError> {
     Ok(bytes)
 }
 
+fn meeting(group: u16, station: u16) -> Meeting {
+    Meeting {
+        group: Group(group),
+        station: Station(station),
+    }
+}
+
 // Three groups, two stations, four rooms; two meetings.
 const SMALL: [u8; 9] = [3, 2, 4, 2, 0, 2, 1, 0, 0];
 
@@ -27,22 +34,7 @@ fn a_small_list(rt: HostRuntime) -> Result<(), Fail> {
     assert_eq!(rt; list.groups(), 3);
     assert_eq!(rt; list.stations(), 2);
     assert_eq!(rt; list.rooms(), 4);
-    let meetings = list.meetings();
-    assert_eq!(rt; meetings.len(), 2);
-    assert_eq!(rt;
-        meetings[0],
-        Meeting {
-            group: Group(2),
-            station: Station(1)
-        }
-    );
-    assert_eq!(rt;
-        meetings[1],
-        Meeting {
-            group: Group(0),
-            station: Station(0)
-        }
-    );
+    assert_eq!(rt; list.meetings(), [meeting(2, 1), meeting(0, 0)].as_slice());
     let bytes = write(rt.alloc(), &list)?;
     assert_eq!(rt; bytes.as_slice(), SMALL.as_slice());
     Ok(())
