@@ -1,14 +1,13 @@
 -- The report is that of the list: slices just as long as the rounds ask for are never refused, and they hold the rule's rounds.
 -- Assumes nothing.
-use Rattle.std.proofs.Common.{◌≡◌, ℕ, ◌*◌, List, ◌++◌, length, replicate, Ok, Err, Result, sym, ap, ◌∙◌, ⊎_elim, arith, MatchResult}
-use Rattle.std.proofs.lemmas.List.{append-nil, drop_all, length-replicate}
+use Rattle.std.proofs.Common.{◌≡◌, ℕ, ◌*◌, List, ◌++◌, length, Ok, Err, Result, sym, ap, ◌∙◌, ⊎_elim, arith, MatchResult}
+use Rattle.std.proofs.lemmas.List.{append-nil, drop_all}
 use Rattle.meetings.specs.declared.list.MeetingList.{MeetingList}
 use Rattle.meetings.specs.declared.refusal.Refusal.{Refusal}
 use Rattle.meetings.specs.declared.refusal.Refusal.TheVariants.{Memory}
 use Rattle.meetings.specs.Held.{contents}
 use Rattle.meetings.specs.Refusals.{Answers, IfMemory, Outcome, accepted}
 use Rattle.meetings.proofs.Outcomes.{accepted_from_ok}
-use Rattle.fewest.specs.Plans.{none}
 use Rattle.fewest.specs.Rounds.{fewest}
 use Rattle.placing.specs.declared.planned.Planned.{Planned}
 use Rattle.placing.specs.Lent.{PlacedLent, Unchanged, place_all}
@@ -29,7 +28,3 @@ told_exactly l xs xs' gs gs' ss ss' er eg es (Ok p) answer lent =
     let held : xs' ≡ (put_all (fewest d) d.meetings).rounds = lent.rounds ∙ ap (λ l. (put_all (fewest d) d.meetings).rounds ++ l) (drop_all (length d.meetings) xs (omega arith)) ∙ append-nil _ in
     cc
 told_exactly l xs xs' gs gs' ss ss' er eg es (Err e) answer lent = only_memory e _ _ (lent_enough l (length xs) (length gs) (length ss) er eg es) answer
-
--- entries for so many parties and rounds
-pub rows_long : (xs : List ℕ) (n r n' r' : ℕ) → xs ≡ replicate (n * r) none → n ≡ n' → r ≡ r' → length xs ≡ n' * r'
-rows_long xs n r n' r' e en er = ap length e ∙ length-replicate (n * r) none ∙ ap (λ x. x * r) en ∙ ap (λ x. n' * x) er

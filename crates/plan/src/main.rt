@@ -22,13 +22,6 @@ Prints the fewest rounds in which all meetings of a day can be held.
 DAY is the file with the day's list of meetings; - reads it from standard input.
 A list that breaks a rule is told of in one line, 'refused N at P', with exit status 1.";
 
-// How the program ends: with the answer printed, or with what is wrong said.
-#[derive(Clone, Copy)]
-enum Ending {
-    Done,
-    Failed,
-}
-
 fn bytes_of(rt: &HostRuntime, path: &str) -> io::Result<Vec<u8>> {
     if path != "-" {
         return fs::read(rt, path);
@@ -46,45 +39,44 @@ fn rounds_of(heap: Global, bytes: &[u8]) -> Result<u16, Refusal>
     fewest_rounds(heap, &list)
 }
 
-fn plan(rt: &HostRuntime, path: &str) -> io::Result<Ending> {
+fn plan(rt: &HostRuntime, path: &str) -> io::Result<ExitCode> {
     let bytes = match bytes_of(rt, path) {
         Ok(bytes) => bytes,
         Err(e) => {
             eprintln!(rt; "plan: cannot read {path}: {e}. Name the file with the day's meetings.")?;
-            return Ok(Ending::Failed);
+            return Ok(ExitCode::FAILURE);
         }
     };
     match rounds_of(rt.alloc(), &bytes) {
         Ok(rounds) => {
             println!(rt; "rounds {rounds}")?;
-            Ok(Ending::Done)
+            Ok(ExitCode::SUCCESS)
         }
         Err(refusal) => {
             println!(rt; "{refusal}")?;
-            Ok(Ending::Failed)
+            Ok(ExitCode::FAILURE)
         }
     }
 }
 
-fn run(rt: &HostRuntime) -> io::Result<Ending> {
+fn run(rt: &HostRuntime) -> io::Result<ExitCode> {
     let mut args = env::args(rt)?.skip(1);
     let first = args.next();
     let more = args.next();
     let (Some(path), None) = (first, more) else {
         eprintln!(rt; "plan: one file is needed, the day's meetings: plan DAY. See plan --help.")?;
-        return Ok(Ending::Failed);
+        return Ok(ExitCode::FAILURE);
     };
     if path.as_str() == "--help" {
         println!(rt; "{USAGE}")?;
-        return Ok(Ending::Done);
+        return Ok(ExitCode::SUCCESS);
     }
     plan(rt, path.as_str())
 }
 
 fn main(rt: HostRuntime) -> ExitCode {
     match run(&rt) {
-        Ok(Ending::Done) => ExitCode::SUCCESS,
-        Ok(Ending::Failed) => ExitCode::FAILURE,
+        Ok(ended) => ended,
         Err(e) => {
             let _ = eprintln!(rt; "plan: {e}");
             ExitCode::FAILURE

@@ -32,10 +32,10 @@ fn place_exactly(
 fn report_on(heap: Global, list: &MeetingList) -> Result<Report, Refusal>
     ensures { IfMemory result (λ report. told report ≡ told_of (contents list.now)) }
 {
-    let rounds = fewest_rounds(heap, list)? as usize;
+    let rounds = usize::from(fewest_rounds(heap, list)?);
     let mut of_meetings = nothing(heap, list.meetings().len())?;
-    let mut group_rows = nothing(heap, list.groups() as usize * rounds)?;
-    let mut station_rows = nothing(heap, list.stations() as usize * rounds)?;
+    let mut group_rows = nothing(heap, usize::from(list.groups()) * rounds)?;
+    let mut station_rows = nothing(heap, usize::from(list.stations()) * rounds)?;
     let planned = place_exactly(
         heap,
         list,

@@ -15,7 +15,7 @@ pub(crate) struct Report {
     pub(crate) of_meetings: Vec<u16>,
 }
 
-// So many entries without a round or a meeting.
+// So many entries without a round or a meeting. A function of its own, since what they hold shows in no report.
 pub(crate) fn nothing(heap: Global, many: usize) -> Result<Vec<u16>, Refusal>
     ensures { IfMemory result (λ v. v.items ≡ replicate many none) }
 {

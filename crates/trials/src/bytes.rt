@@ -1,24 +1,28 @@
 // Reading and writing lists: each refusal with its place, at both sides of each limit.
-use meetings::{Refusal, read, write};
+use meetings::{Group, Meeting, Refusal, Station, read, write};
 use std::alloc::{AllocError, Global};
 use std::test::Fail;
 
 // The number and the place of a refusal, or None where the bytes are accepted.
 fn told(heap: Global, bytes: &[u8]) -> Option<(u8, usize)> {
-    match read(heap, bytes) {
-        Ok(_) => None,
-        Err(refusal) => Some((refusal.number(), refusal.place())),
-    }
+    let refusal = read(heap, bytes).err()?;
+    Some((refusal.number(), refusal.place()))
 }
 
 // A list of so many meetings of one pair.
 fn one_pair(heap: Global, many: u16) -> Result<Vec<u8>, AllocError> {
     let mut bytes = Vec::new(heap);
-    bytes.extend_from_slice(&[1, 1, 1, (many % 256) as u8, (many / 256) as u8])?;
-    for _ in 0..many {
-        bytes.extend_from_slice(&[0, 0])?;
-    }
+    let [low, high] = many.to_le_bytes();
+    bytes.extend_from_slice(&[1, 1, 1, low, high])?;
+    bytes.resize(5 + 2 * usize::from(many), 0)?;
     Ok(bytes)
+}
+
+fn meeting(group: u16, station: u16) -> Meeting {
+    Meeting {
+        group: Group(group),
+        station: Station(station),
+    }
 }
 
 // Three groups, two stations, four rooms; two meetings.
@@ -30,10 +34,7 @@ fn a_small_list(rt: HostRuntime) -> Result<(), Fail> {
     assert_eq!(rt; list.groups(), 3);
     assert_eq!(rt; list.stations(), 2);
     assert_eq!(rt; list.rooms(), 4);
-    let meetings = list.meetings();
-    assert!(rt; meetings.len() == 2);
-    assert_eq!(rt; (meetings[0].group.0, meetings[0].station.0), (2, 1));
-    assert_eq!(rt; (meetings[1].group.0, meetings[1].station.0), (0, 0));
+    assert_eq!(rt; list.meetings(), [meeting(2, 1), meeting(0, 0)].as_slice());
     let bytes = write(rt.alloc(), &list)?;
     assert_eq!(rt; bytes.as_slice(), SMALL.as_slice());
     Ok(())
@@ -41,8 +42,9 @@ fn a_small_list(rt: HostRuntime) -> Result<(), Fail> {
 
 #[test]
 fn each_truncation_is_refused_at_its_length(rt: HostRuntime) {
+    // the lengths themselves are tried, so they are counted
     for length in 0..SMALL.len() {
-        assert_eq!(rt; told(rt.alloc(), &SMALL[0..length]), Some((1, length)));
+        assert_eq!(rt; told(rt.alloc(), &SMALL[..length]), Some((1, length)));
     }
     assert_eq!(rt; told(rt.alloc(), &SMALL), None);
 }
@@ -61,6 +63,7 @@ fn bytes_that_go_on_are_refused_at_the_first_too_many(rt: HostRuntime) {
 
 #[test]
 fn head_at_its_limits(rt: HostRuntime) {
+    // the places themselves are tried, so they are counted
     for at in 0..3usize {
         for number in [0u8, 1, 120, 121, 255] {
             let mut head = [1u8, 1, 1, 0, 0];
@@ -81,7 +84,7 @@ fn meetings_at_their_limit(rt: HostRuntime) -> Result<(), Fail> {
         let bytes = one_pair(rt.alloc(), many)?;
         assert_eq!(rt; told(rt.alloc(), &bytes), None);
         let list = read(rt.alloc(), &bytes)?;
-        assert_eq!(rt; list.meetings().len(), many as usize);
+        assert_eq!(rt; list.meetings().len(), usize::from(many));
         let back = write(rt.alloc(), &list)?;
         assert_eq!(rt; back.as_slice(), bytes.as_slice());
     }
@@ -95,6 +98,7 @@ fn meetings_at_their_limit(rt: HostRuntime) -> Result<(), Fail> {
 #[test]
 fn parties_at_their_limits(rt: HostRuntime) {
     for many in [1u8, 2, 120] {
+        // a place at the head, and the same place in the meeting
         for at in 0..2usize {
             let mut bytes = [1, 1, 1, 1, 0, 0, 0];
             bytes[at] = many;

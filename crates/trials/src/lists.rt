@@ -6,7 +6,6 @@ use std::alloc::{AllocError, Global};
 
 // The bytes of a list, its meetings given by their groups and their stations. A number of meetings that two bytes do not hold
 // is cut.
-#[tactic(auto, using(crate::proofs::Turns::pair_more, crate::proofs::Turns::all_pairs))]
 pub fn bytes_of(
     heap: Global,
     groups: u8,
@@ -16,15 +15,9 @@ pub fn bytes_of(
 ) -> Result<Vec<u8>, AllocError>
     ensures { IfOk result (λ v. v.items ≡ bytes_of_list groups stations rooms meetings.now) }
 {
+    let [low, high, ..] = meetings.len().to_le_bytes();
     let mut bytes = Vec::new(heap);
-    let head = [
-        groups,
-        stations,
-        rooms,
-        (meetings.len() % 256) as u8,
-        (meetings.len() / 256 % 256) as u8,
-    ];
-    bytes.extend_from_slice(&head)?;
+    bytes.extend_from_slice(&[groups, stations, rooms, low, high])?;
     for meeting in meetings {
         bytes.extend_from_slice(&[meeting.0, meeting.1])?;
     }

@@ -7,6 +7,7 @@ use meetings::{Refusal, read};
 use std::alloc::Global;
 use std::test::Fail;
 
+// As the program plan has it, of which nothing can be imported.
 fn rounds_of(heap: Global, bytes: &[u8]) -> Result<u16, Refusal> {
     let list = read(heap, bytes)?;
     fewest_rounds(heap, &list)
@@ -44,12 +45,9 @@ fn each_party_is_counted(rt: HostRuntime) -> Result<(), Fail> {
 #[test]
 fn five_by_five(rt: HostRuntime) -> Result<(), Fail> {
     let heap = rt.alloc();
-    let mut meetings = Vec::new(heap);
-    for group in 0..5u8 {
-        for station in 0..5u8 {
-            meetings.push((group, station))?;
-        }
-    }
+    let meetings = (0..5u8)
+        .flat_map(|group| (0..5u8).map(move |station| (group, station)))
+        .collect::<Vec<_>>(heap)?;
     let in_five = bytes_of(heap, 5, 5, 5, &meetings)?;
     assert_eq!(rt; rounds_of(heap, &in_five)?, 5);
     let in_four = bytes_of(heap, 5, 5, 4, &meetings)?;
@@ -61,12 +59,10 @@ fn five_by_five(rt: HostRuntime) -> Result<(), Fail> {
 #[test]
 fn largest_lists(rt: HostRuntime) -> Result<(), Fail> {
     let heap = rt.alloc();
-    let mut pair = Vec::new(heap);
-    let mut spread = Vec::new(heap);
-    for i in 0..4000u16 {
-        pair.push((0u8, 0u8))?;
-        spread.push(((i % 120) as u8, ((i + i / 120) % 120) as u8))?;
-    }
+    let pair = vec![in heap; (0u8, 0u8); 4000]?;
+    let spread = (0..4000u16)
+        .map(|i| ((i % 120) as u8, ((i % 120 + i / 120) % 120) as u8))
+        .collect::<Vec<_>>(heap)?;
     let pair_bytes = bytes_of(heap, 1, 1, 120, &pair)?;
     assert_eq!(rt; rounds_of(heap, &pair_bytes)?, 4000);
     let spread_bytes = bytes_of(heap, 120, 120, 120, &spread)?;

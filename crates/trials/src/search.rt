@@ -1,60 +1,42 @@
 // The fewest rounds found by trying all plans, with nothing of the libraries in it.
 
-// The round that the plan with this number gives a meeting: a digit of the number, to the base of the rounds.
-fn round_of(plan: u32, rounds: u32, meeting: usize) -> u32 {
-    let base = rounds.max(1);
-    let mut rest = plan;
-    for _ in 0..meeting {
-        rest = rest / base;
-    }
-    rest % base
+// A plan is a number: the round of each meeting is a digit of it, to the base of the rounds.
+#[derive(Clone, Copy)]
+struct Plan {
+    number: u32,
+    rounds: u32,
 }
 
-// Whether the meeting fits in with the earlier ones: nobody twice in its round, and a room for it.
-fn fits(meetings: &[(u8, u8)], rooms: u8, plan: u32, rounds: u32, meeting: usize) -> bool {
-    let mut in_round = 1u32;
-    for other in 0..meeting.min(meetings.len()) {
-        if meeting < meetings.len()
-            && round_of(plan, rounds, other) == round_of(plan, rounds, meeting)
-        {
-            let (group, station) = meetings[meeting];
-            if meetings[other].0 == group || meetings[other].1 == station {
-                return false;
-            }
-            in_round = in_round.saturating_add(1);
-        }
+impl Plan {
+    fn round_of(self, meeting: usize) -> u32 {
+        let base = self.rounds.max(1);
+        let place = u32::try_from(meeting).unwrap_or(u32::MAX);
+        self.number / base.saturating_pow(place) % base
     }
-    in_round <= u32::from(rooms)
-}
 
-fn is_plan(meetings: &[(u8, u8)], rooms: u8, plan: u32, rounds: u32) -> bool {
-    for meeting in 0..meetings.len() {
-        if !fits(meetings, rooms, plan, rounds, meeting) {
-            return false;
-        }
+    // Whether a meeting fits in with the earlier ones: nobody twice in its round, and a room for it.
+    fn fits(self, earlier: &[(u8, u8)], meeting: (u8, u8), rooms: u8) -> bool {
+        let round = self.round_of(earlier.len());
+        let beside = (0..earlier.len())
+            .filter(|at| self.round_of(*at) == round)
+            .count();
+        let clashes = earlier.iter().enumerate().any(|(at, other)| {
+            self.round_of(at) == round && (other.0 == meeting.0 || other.1 == meeting.1)
+        });
+        beside < usize::from(rooms) && !clashes
     }
-    true
+
+    fn is_right(self, meetings: &[(u8, u8)], rooms: u8) -> bool {
+        meetings.iter().enumerate().all(|(at, meeting)| self.fits(&meetings[..at], *meeting, rooms))
+    }
 }
 
 fn has_plan(meetings: &[(u8, u8)], rooms: u8, rounds: u32) -> bool {
-    let mut plans = 1u32;
-    for _ in 0..meetings.len() {
-        plans = plans.saturating_mul(rounds);
-    }
-    for plan in 0..plans {
-        if is_plan(meetings, rooms, plan, rounds) {
-            return true;
-        }
-    }
-    false
+    let many = u32::try_from(meetings.len()).unwrap_or(u32::MAX);
+    (0..rounds.saturating_pow(many)).any(|number| Plan { number, rounds }.is_right(meetings, rooms))
 }
 
 // The least number of rounds, below ten, for which there is a plan.
 pub(crate) fn searched(meetings: &[(u8, u8)], rooms: u8) -> Option<u32> {
-    for rounds in 0..10u32 {
-        if has_plan(meetings, rooms, rounds) {
-            return Some(rounds);
-        }
-    }
-    None
+    (0..10).find(|rounds| has_plan(meetings, rooms, *rounds))
 }

@@ -1,7 +1,7 @@
 // Whether a list is placed as it should be.
 use crate::lent::{Lengths, Slices};
 use crate::plans::is_plan;
-use crate::rule::{number_of_rounds, put_all};
+use crate::rule::{PartialPlan, number_of_rounds};
 use meetings::{MeetingList, Refusal, read};
 use std::alloc::Global;
 use std::process::Abort;
@@ -28,7 +28,7 @@ pub(crate) fn check_placed(
 ) -> Result<u64, Fail> {
     let meetings = list.meetings();
     let many = number_of_rounds(meetings, list.rooms());
-    let right = put_all(heap, meetings, many)?;
+    let right = PartialPlan::of(heap, meetings, many)?;
     let mut lent = Slices::new(heap, lengths)?;
     let planned = lent.place(heap, list)?;
     assert_eq!(rt; planned.rounds, many);
@@ -36,6 +36,6 @@ pub(crate) fn check_placed(
     let parties = u64::from(list.groups()).saturating_add(u64::from(list.stations()));
     assert!(rt; planned.looks <= (meetings.len() as u64).saturating_mul(parties.saturating_add(1)));
     assert!(rt; is_plan(meetings, &lent.rounds, many));
-    lent.check_same(rt, &Slices::with(heap, lengths, list, &right.rounds)?);
+    assert_eq!(rt; lent, Slices::with(heap, lengths, list, &right)?);
     Ok(planned.looks.saturating_sub(meetings.len() as u64))
 }

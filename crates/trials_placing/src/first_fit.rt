@@ -9,12 +9,8 @@ use std::test::Fail;
 
 // Whether an earlier meeting in the round has the group or the station.
 fn is_taken(meetings: &[(u8, u8)], rounds: &[u16], meeting: (u8, u8), round: u16) -> bool {
-    for at in 0..meetings.len().min(rounds.len()) {
-        if rounds[at] == round && (meetings[at].0 == meeting.0 || meetings[at].1 == meeting.1) {
-            return true;
-        }
-    }
-    false
+    meetings.iter().zip(rounds).any(|(other, at)| *at == round
+        && (other.0 == meeting.0 || other.1 == meeting.1))
 }
 
 // How many rounds it takes if each meeting gets the first common free round, else a new one.
@@ -22,12 +18,9 @@ fn first_fit(heap: Global, meetings: &[(u8, u8)]) -> Result<u16, AllocError> {
     let mut rounds = Vec::new(heap);
     let mut many = 0u16;
     for meeting in meetings {
-        let mut first = many;
-        for round in (0..many).rev() {
-            if !is_taken(meetings, &rounds, *meeting, round) {
-                first = round;
-            }
-        }
+        let first = (0..many)
+            .find(|round| !is_taken(meetings, &rounds, *meeting, *round))
+            .unwrap_or(many);
         rounds.push(first)?;
         many = many.max(first.saturating_add(1));
     }

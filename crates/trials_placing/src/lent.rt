@@ -1,15 +1,31 @@
 // The three slices that are lent, and what they hold before and after.
-use crate::rule::{NONE, met};
-use meetings::{Meeting, MeetingList, Refusal, Side};
+use crate::rule::PartialPlan;
+use meetings::{MeetingList, Refusal, Round, Side};
 use placing::{Planned, place_all};
 use std::alloc::{AllocError, Global};
-use std::process::Abort;
 
-// The lengths of the lent rounds, the rows of the groups, and the rows of the stations.
+// What a row holds for a round without a meeting: a lent slice is of u16.
+const NONE: u16 = 65535;
+
+// How long the slices are.
 #[derive(Clone, Copy)]
-pub(crate) struct Lengths(pub(crate) usize, pub(crate) usize, pub(crate) usize);
+pub(crate) struct Lengths {
+    pub(crate) rounds: usize,
+    pub(crate) group_rows: usize,
+    pub(crate) station_rows: usize,
+}
 
-#[derive(Drop)]
+impl Lengths {
+    pub(crate) fn new(rounds: usize, group_rows: usize, station_rows: usize) -> Lengths {
+        Lengths {
+            rounds,
+            group_rows,
+            station_rows,
+        }
+    }
+}
+
+#[derive(PartialEq, Eq, Debug, Drop)]
 pub(crate) struct Slices {
     pub(crate) rounds: Vec<u16>,
     pub(crate) group_rows: Vec<u16>,
@@ -18,83 +34,56 @@ pub(crate) struct Slices {
 
 // So many entries, of which no two neighbours are alike, and none is a round or a meeting of a test.
 fn stale(heap: Global, length: usize) -> Result<Vec<u16>, AllocError> {
-    let mut entries = Vec::new(heap);
-    for at in 0..length {
-        entries.push(60000 + (at % 1000) as u16)?;
-    }
-    Ok(entries)
+    (60000..61000u16).cycle().take(length).collect(heap)
 }
 
 // The entries that are written, and behind them those that were there before.
-fn over(mut written: Vec<u16>, before: &[u16]) -> Result<Vec<u16>, AllocError> {
-    for entry in before.iter().skip(written.len()) {
-        written.push(*entry)?;
-    }
-    Ok(written)
+fn over(heap: Global, written: &[u16], before: &[u16]) -> Result<Vec<u16>, AllocError> {
+    let behind = before.iter().skip(written.len());
+    written.iter().chain(behind).copied().collect(heap)
 }
 
 // The rows of one side in a slice: for each party and each round of its row the meeting that it has there.
 fn rows(
     heap: Global,
-    meetings: &[Meeting],
-    rounds: &[u16],
+    plan: &PartialPlan,
     side: Side,
     parties: u16,
     length: usize,
 ) -> Result<Vec<u16>, AllocError> {
-    let mut entries = Vec::new(heap);
-    let width = (length / usize::from(parties.max(1))).min(65535) as u16;
-    for party in 0..parties {
-        for round in 0..width {
-            let entry = match met(meetings, rounds, side, party, round) {
-                Some((meeting, _)) => meeting.min(65534) as u16,
-                None => NONE,
-            };
-            entries.push(entry)?;
-        }
-    }
-    Ok(entries)
+    let width = u16::try_from(length / usize::from(parties.max(1))).unwrap_or(u16::MAX);
+    (0..parties)
+        .flat_map(|party| (0..width).map(move |round| plan.met(side, party, Round(round))))
+        .map(|met| met.map_or(NONE, |placed| placed.number.0))
+        .collect(heap)
 }
 
 impl Slices {
     // As they are lent.
     pub(crate) fn new(heap: Global, lengths: Lengths) -> Result<Slices, AllocError> {
         Ok(Slices {
-            rounds: stale(heap, lengths.0)?,
-            group_rows: stale(heap, lengths.1)?,
-            station_rows: stale(heap, lengths.2)?,
+            rounds: stale(heap, lengths.rounds)?,
+            group_rows: stale(heap, lengths.group_rows)?,
+            station_rows: stale(heap, lengths.station_rows)?,
         })
     }
 
-    // As they should be with these rounds.
+    // As they should be with this plan.
     pub(crate) fn with(
         heap: Global,
         lengths: Lengths,
         list: &MeetingList,
-        rounds: &[u16],
+        plan: &PartialPlan,
     ) -> Result<Slices, AllocError> {
         let before = Slices::new(heap, lengths)?;
-        let meetings = list.meetings();
-        let group_rows = rows(
-            heap,
-            meetings,
-            rounds,
-            Side::Groups,
-            list.groups(),
-            lengths.1,
-        )?;
-        let station_rows = rows(
-            heap,
-            meetings,
-            rounds,
-            Side::Stations,
-            list.stations(),
-            lengths.2,
-        )?;
+        let rounds = plan.rounds(heap)?;
+        let (groups, stations) = (list.groups(), list.stations());
+        let group_rows = rows(heap, plan, Side::Groups, groups, lengths.group_rows)?;
+        let station_rows = rows(heap, plan, Side::Stations, stations, lengths.station_rows)?;
         Ok(Slices {
-            rounds: over(rounds.to_vec(heap)?, &before.rounds)?,
-            group_rows: over(group_rows, &before.group_rows)?,
-            station_rows: over(station_rows, &before.station_rows)?,
+            rounds: over(heap, &rounds, &before.rounds)?,
+            group_rows: over(heap, &group_rows, &before.group_rows)?,
+            station_rows: over(heap, &station_rows, &before.station_rows)?,
         })
     }
 
@@ -102,15 +91,9 @@ impl Slices {
         place_all(
             heap,
             list,
-            self.rounds.as_mut_slice(),
-            self.group_rows.as_mut_slice(),
-            self.station_rows.as_mut_slice(),
+            &mut self.rounds,
+            &mut self.group_rows,
+            &mut self.station_rows,
         )
-    }
-
-    pub(crate) fn check_same(&self, rt: &impl Abort, other: &Slices) {
-        assert_eq!(rt; self.rounds.as_slice(), other.rounds.as_slice());
-        assert_eq!(rt; self.group_rows.as_slice(), other.group_rows.as_slice());
-        assert_eq!(rt; self.station_rows.as_slice(), other.station_rows.as_slice());
     }
 }

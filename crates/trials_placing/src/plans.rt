@@ -1,5 +1,5 @@
 // Whether rounds are a plan, by comparing all pairs of meetings. The tests rest on it, so what it answers is proved.
-ghost use Rattle.std.specs.Prelude.{◌<◌, ◌≤◌, ◌↔◌, IsTrue, length, take};
+ghost use Rattle.std.specs.Prelude.{ℕ, ◌<◌, ◌≤◌, ◌↔◌, IsTrue, length, take};
 ghost use Rattle.fewest.specs.Plans.{Plan};
 ghost use Rattle.trials_placing.specs.Clashes.{Clash, Fits};
 
@@ -13,8 +13,8 @@ fn clash(meetings: &[Meeting], rounds: &[u16], one: usize, other: usize) -> bool
     ensures { IsTrue result ↔ Clash meetings.now rounds.now one other }
 {
     rounds[one] == rounds[other]
-        && (meetings[one].group.0 == meetings[other].group.0
-            || meetings[one].station.0 == meetings[other].station.0)
+        && (meetings[one].group == meetings[other].group
+            || meetings[one].station == meetings[other].station)
 }
 
 // A meeting has one of so many rounds, and clashes with no earlier one.
@@ -23,28 +23,20 @@ fn fits(meetings: &[Meeting], rounds: &[u16], many: u16, one: usize) -> bool
     requires each { length meetings.now ≤ length rounds.now }
     ensures { IsTrue result ↔ Fits many meetings.now rounds.now one }
 {
-    if rounds[one] >= many {
-        return false;
-    }
-    for other in 0..one {
-        if clash(meetings, rounds, one, other) {
-            return false;
-        }
-    }
-    true
+    rounds[one] < many && !(0..one).any(|other| clash(meetings, rounds, one, other))
+}
+
+// Each meeting fits in with the earlier ones.
+fn all_fit(meetings: &[Meeting], rounds: &[u16], many: u16) -> bool
+    requires each { length meetings.now ≤ length rounds.now }
+    ensures { IsTrue result ↔ ((i : ℕ) → i < length meetings.now → Fits many meetings.now rounds.now i) }
+{
+    (0..meetings.len()).all(|one| fits(meetings, rounds, many, one))
 }
 
 // The first rounds, one for each meeting, are a plan with so many rounds. What lies beyond them does not matter.
 pub fn is_plan(meetings: &[Meeting], rounds: &[u16], many: u16) -> bool
     ensures { IsTrue result ↔ Plan many meetings.now (take (length meetings.now) rounds.now) }
 {
-    if rounds.len() < meetings.len() {
-        return false;
-    }
-    for one in 0..meetings.len() {
-        if !fits(meetings, rounds, many, one) {
-            return false;
-        }
-    }
-    true
+    meetings.len() <= rounds.len() && all_fit(meetings, rounds, many)
 }

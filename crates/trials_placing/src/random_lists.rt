@@ -8,13 +8,9 @@ use trials::Random;
 
 // Whether the group and the station of a meeting have both fewer meetings than the most.
 fn has_place(meetings: &[(u8, u8)], meeting: (u8, u8), most: u8) -> bool {
-    let mut of_group = 0u8;
-    let mut of_station = 0u8;
-    for other in meetings {
-        of_group = of_group.saturating_add(u8::from(other.0 == meeting.0));
-        of_station = of_station.saturating_add(u8::from(other.1 == meeting.1));
-    }
-    of_group < most && of_station < most
+    let of_group = meetings.iter().filter(|other| other.0 == meeting.0).count();
+    let of_station = meetings.iter().filter(|other| other.1 == meeting.1).count();
+    of_group < usize::from(most) && of_station < usize::from(most)
 }
 
 // Up to 40 meetings, of which no party has more than the most: many are as busy as the busiest, and then chains are needed.
@@ -55,11 +51,11 @@ fn random_lists_beside_the_rule(rt: HostRuntime) -> Result<(), Fail> {
         let meetings = some_meetings(heap, &mut random, groups, stations)?;
         let list = list_of(heap, groups, stations, rooms, &meetings)?;
         let rounds = number_of_rounds(list.meetings(), list.rooms());
-        let lengths = Lengths(
-            meetings.len().saturating_add(usize::from(random.below(4))),
-            some_length(&mut random, groups, rounds),
-            some_length(&mut random, stations, rounds),
-        );
+        let lengths = Lengths {
+            rounds: meetings.len().saturating_add(usize::from(random.below(4))),
+            group_rows: some_length(&mut random, groups, rounds),
+            station_rows: some_length(&mut random, stations, rounds),
+        };
         on_chains = on_chains.saturating_add(check_placed(&rt, heap, &list, lengths)?);
     }
     // else the lists would show little

@@ -20,7 +20,7 @@ fn check_short(
         lent.place(heap, list).err(),
         Some(Refusal::ShortSlice(short))
     );
-    lent.check_same(rt, &Slices::new(heap, lengths)?);
+    assert_eq!(rt; lent, Slices::new(heap, lengths)?);
     Ok(())
 }
 
@@ -30,23 +30,27 @@ fn short_slices_are_refused(rt: HostRuntime) -> Result<(), Fail> {
     let heap = rt.alloc();
     let list = list_of(heap, 3, 2, 2, &[(0, 0), (0, 1), (1, 0), (2, 0), (2, 1)])?;
     let short = [
-        (Lengths(4, 9, 6), Lent::Rounds),
-        (Lengths(5, 8, 6), Lent::GroupRows),
-        (Lengths(5, 9, 5), Lent::StationRows),
+        (Lengths::new(4, 9, 6), Lent::Rounds),
+        (Lengths::new(5, 8, 6), Lent::GroupRows),
+        (Lengths::new(5, 9, 5), Lent::StationRows),
         // the first is told
-        (Lengths(4, 8, 6), Lent::Rounds),
-        (Lengths(4, 9, 5), Lent::Rounds),
-        (Lengths(5, 8, 5), Lent::GroupRows),
-        (Lengths(0, 0, 0), Lent::Rounds),
-        (Lengths(5, 0, 0), Lent::GroupRows),
-        (Lengths(5, 9, 0), Lent::StationRows),
+        (Lengths::new(4, 8, 6), Lent::Rounds),
+        (Lengths::new(4, 9, 5), Lent::Rounds),
+        (Lengths::new(5, 8, 5), Lent::GroupRows),
+        (Lengths::new(0, 0, 0), Lent::Rounds),
+        (Lengths::new(5, 0, 0), Lent::GroupRows),
+        (Lengths::new(5, 9, 0), Lent::StationRows),
         // what one has too many is no help to another
-        (Lengths(100, 8, 100), Lent::GroupRows),
+        (Lengths::new(100, 8, 100), Lent::GroupRows),
     ];
     for (lengths, which) in short {
         check_short(&rt, heap, &list, lengths, which)?;
     }
-    for lengths in [Lengths(5, 9, 6), Lengths(6, 11, 7), Lengths(5, 12, 20)] {
+    for lengths in [
+        Lengths::new(5, 9, 6),
+        Lengths::new(6, 11, 7),
+        Lengths::new(5, 12, 20),
+    ] {
         assert_eq!(rt; check_placed(&rt, heap, &list, lengths)?, 0);
     }
     Ok(())
@@ -59,7 +63,7 @@ fn no_meetings_take_no_rounds(rt: HostRuntime) -> Result<(), Fail> {
     let planned = place_all(heap, &list, &mut [], &mut [], &mut [])?;
     assert_eq!(rt; (planned.rounds, planned.looks), (0, 0));
     // rows that are lent all the same are emptied
-    assert_eq!(rt; check_placed(&rt, heap, &list, Lengths(2, 7, 5))?, 0);
+    assert_eq!(rt; check_placed(&rt, heap, &list, Lengths::new(2, 7, 5))?, 0);
     Ok(())
 }
 
@@ -68,7 +72,7 @@ fn no_meetings_take_no_rounds(rt: HostRuntime) -> Result<(), Fail> {
 fn rows_of_all_rounds(rt: HostRuntime) -> Result<(), Fail> {
     let list = list_of(rt.alloc(), 1, 1, 1, &[(0, 0), (0, 0)])?;
     assert_eq!(rt;
-        check_placed(&rt, rt.alloc(), &list, Lengths(2, 65537, 70000))?,
+        check_placed(&rt, rt.alloc(), &list, Lengths::new(2, 65537, 70000))?,
         0
     );
     Ok(())

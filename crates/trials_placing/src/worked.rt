@@ -30,11 +30,11 @@ pub(crate) const TWO_CHAINS: [(u8, u8); 9] = [
 // Slices without an entry too many.
 pub(crate) fn just_enough(list: &MeetingList, rounds: u16) -> Lengths {
     let many = usize::from(rounds);
-    Lengths(
-        list.meetings().len(),
-        many.saturating_mul(usize::from(list.groups())),
-        many.saturating_mul(usize::from(list.stations())),
-    )
+    Lengths {
+        rounds: list.meetings().len(),
+        group_rows: many.saturating_mul(usize::from(list.groups())),
+        station_rows: many.saturating_mul(usize::from(list.stations())),
+    }
 }
 
 fn check_rounds(
