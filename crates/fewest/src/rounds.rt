@@ -16,6 +16,7 @@ fn number_of_rounds(heap: Global, list: &MeetingList) -> Result<u16, Refusal>
     ensures { IfMemory result (λ x. x ≡ fewest (contents list.now)) }
 {
     let tally = Tally::of(heap, list)?;
+    // `as`, since it is proved to fit
     let by_rooms = (list.meetings().len() as u16).div_ceil(list.rooms());
     Ok(tally.busiest().max(by_rooms))
 }

@@ -13,6 +13,7 @@ pub fn write(heap: Global, list: &MeetingList) -> Result<Vec<u8>, Refusal>
     ensures answer { IfMemory result (λ v. v.items ≡ bytes_of (contents list.now)) }
     ensures back { IfOk result (λ v. read_list v.items ≡ accepted (contents list.now)) }
 {
+    // `as` here and below, since that the numbers fit is proved: a `try_from` would have an error that cannot come
     let meetings = list.meetings();
     let [low, high] = (meetings.len() as u16).to_le_bytes();
     let head = [

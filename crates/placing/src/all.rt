@@ -22,7 +22,7 @@ fn put_each(board: &mut Board<'_>, rounds: u16, found: &mut Found) -> u64
     ensures { PutsOn board.old board.new found.old found.new (put_all rounds (meetings_on board.old)) result }
 {
     let mut looks = 0;
-    // by their numbers, which is what a plan knows meetings by
+    // by their numbers, which is what a plan knows meetings by; `as`, since it is proved that they fit
     for meeting in 0..board.meetings.len() as u16 {
         looks += put_in(board, rounds, MeetingId(meeting), found);
     }

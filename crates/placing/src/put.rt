@@ -25,6 +25,7 @@ fn open_round(
     let first = board.met(Side::Stations, station, rounds.a).unwrap();
     board.find_chain(rounds, first, found);
     board.exchange(rounds, found.list());
+    // `as`, since a `usize` has no `From` to a `u64`
     let length = found.list().len() as u64;
     found.clear();
     length

@@ -27,6 +27,7 @@ impl Random {
             .state
             .wrapping_mul(6364136223846793005)
             .wrapping_add(1442695040888963407);
+        // `as`, since it is proved to fit
         ((self.state >> 33) % u64::from(limit)) as u8
     }
 }

@@ -61,6 +61,7 @@ fn largest_lists(rt: HostRuntime) -> Result<(), Fail> {
     let heap = rt.alloc();
     let pair = vec![in heap; (0u8, 0u8); 4000]?;
     let spread = (0..4000u16)
+        // `as`, since it is proved to fit
         .map(|i| ((i % 120) as u8, ((i % 120 + i / 120) % 120) as u8))
         .collect::<Vec<_>>(heap)?;
     let pair_bytes = bytes_of(heap, 1, 1, 120, &pair)?;

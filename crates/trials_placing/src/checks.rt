@@ -33,6 +33,7 @@ pub(crate) fn check_placed(
     let planned = lent.place(heap, list)?;
     assert_eq!(rt; planned.rounds, many);
     assert_eq!(rt; planned.looks, right.looks);
+    // `as` below, since a `usize` has no `From` to a `u64`
     let parties = u64::from(list.groups()).saturating_add(u64::from(list.stations()));
     assert!(rt; planned.looks <= (meetings.len() as u64).saturating_mul(parties.saturating_add(1)));
     assert!(rt; is_plan(meetings, &lent.rounds, many));

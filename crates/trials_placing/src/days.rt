@@ -45,6 +45,7 @@ fn a_full_day(rt: HostRuntime) -> Result<(), Fail> {
         let meetings = (0..4000u16)
             .map(|number| {
                 let i = u32::from(number) * u32::from(step) % 4000;
+                // `as`, since it is proved to fit
                 ((i % 120) as u8, ((i + i / 120) % 120) as u8)
             })
             .collect::<Vec<_>>(heap)?;

@@ -3,18 +3,11 @@
 use meetings::{Meeting, MeetingId, Round, Side, Station};
 use std::alloc::{AllocError, Global};
 
-fn of_side(meeting: Meeting, side: Side) -> u16 {
-    match side {
-        Side::Groups => meeting.group.0,
-        Side::Stations => meeting.station.0,
-    }
-}
-
 // Among these meetings, how many the group or the station of one has.
 fn held(meetings: &[Meeting], side: Side, one: Meeting) -> usize {
     meetings
         .iter()
-        .filter(|other| of_side(**other, side) == of_side(one, side))
+        .filter(|other| other.party(side) == one.party(side))
         .count()
 }
 
@@ -82,13 +75,13 @@ impl PartialPlan {
     // The meeting that a party has in a round.
     pub(crate) fn met(&self, side: Side, party: u16, round: Round) -> Option<Placed> {
         self.placed.iter().copied().find(|placed| placed.round == round
-            && of_side(placed.meeting, side) == party)
+            && placed.meeting.party(side) == party)
     }
 
     // The lowest round in which all these sides of a meeting are free.
     fn lowest_free(&self, sides: &[Side], meeting: Meeting) -> Option<Round> {
         (0..self.many).map(Round).find(|round| {
-            sides.iter().all(|side| self.met(*side, of_side(meeting, *side), *round).is_none())
+            sides.iter().all(|side| self.met(*side, meeting.party(*side), *round).is_none())
         })
     }
 
@@ -108,7 +101,7 @@ impl PartialPlan {
                 break;
             };
             members.push(member.number)?;
-            next = self.met(side, of_side(member.meeting, side), round);
+            next = self.met(side, member.meeting.party(side), round);
         }
         Ok(members)
     }
@@ -137,6 +130,7 @@ impl PartialPlan {
         };
         let members = self.chain(heap, meeting.station, a, b)?;
         self.exchange(&members, a, b);
+        // `as`, since a `usize` has no `From` to a `u64`
         self.looks = self.looks.saturating_add(members.len() as u64);
         Ok(Some(a))
     }
