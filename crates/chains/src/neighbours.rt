@@ -8,7 +8,7 @@ ghost use Rattle.chains.specs.Partial.{Unless};
 use crate::board::Board;
 use meetings::{MeetingId, Round, Side};
 
-// Two rounds that are looked at together.
+// Two rounds that are looked at together. They are no part of a board that is lent, since an exchange writes it in between.
 #[derive(Clone, Copy)]
 pub struct TwoRounds {
     pub a: Round,

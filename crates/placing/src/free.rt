@@ -40,7 +40,8 @@ pub(crate) fn common_free(board: &Board<'_>, rounds: u16, meeting: MeetingId) ->
     lowest_common_free(group_row, station_row, rounds)
 }
 
-// The lowest round in which the group of a meeting, or its station, is free, if there is one.
+// The lowest round in which the group of a meeting, or its station, is free, if there is one. Apart from the search above, as it
+// is in the rule.
 pub(crate) fn own_free(
     board: &Board<'_>,
     rounds: u16,

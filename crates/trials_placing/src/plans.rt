@@ -5,38 +5,45 @@ ghost use Rattle.trials_placing.specs.Clashes.{Clash, Fits};
 
 use meetings::Meeting;
 
-// Two meetings have one round, and a group or a station in common.
-fn clash(meetings: &[Meeting], rounds: &[u16], one: usize, other: usize) -> bool
-    requires one { one < length meetings.now }
-    requires other { other < length meetings.now }
-    requires each { length meetings.now ≤ length rounds.now }
-    ensures { IsTrue result ↔ Clash meetings.now rounds.now one other }
-{
-    rounds[one] == rounds[other]
-        && (meetings[one].group == meetings[other].group
-            || meetings[one].station == meetings[other].station)
+// Meetings, and a round for each of them.
+#[derive(Clone, Copy)]
+struct Rounds<'a> {
+    meetings: &'a [Meeting],
+    rounds: &'a [u16],
+    ghost each: { length meetings.now ≤ length rounds.now },
 }
 
-// A meeting has one of so many rounds, and clashes with no earlier one.
-fn fits(meetings: &[Meeting], rounds: &[u16], many: u16, one: usize) -> bool
-    requires one { one < length meetings.now }
-    requires each { length meetings.now ≤ length rounds.now }
-    ensures { IsTrue result ↔ Fits many meetings.now rounds.now one }
-{
-    rounds[one] < many && !(0..one).any(|other| clash(meetings, rounds, one, other))
-}
+impl Rounds<'_> {
+    // Two meetings have one round, and a group or a station in common.
+    fn clash(&self, one: usize, other: usize) -> bool
+        requires one { one < length self.now.meetings.now }
+        requires other { other < length self.now.meetings.now }
+        ensures { IsTrue result ↔ Clash self.now.meetings.now self.now.rounds.now one other }
+    {
+        self.rounds[one] == self.rounds[other]
+            && (self.meetings[one].group == self.meetings[other].group
+                || self.meetings[one].station == self.meetings[other].station)
+    }
 
-// Each meeting fits in with the earlier ones.
-fn all_fit(meetings: &[Meeting], rounds: &[u16], many: u16) -> bool
-    requires each { length meetings.now ≤ length rounds.now }
-    ensures { IsTrue result ↔ ((i : ℕ) → i < length meetings.now → Fits many meetings.now rounds.now i) }
-{
-    (0..meetings.len()).all(|one| fits(meetings, rounds, many, one))
+    // A meeting has one of so many rounds, and clashes with no earlier one.
+    fn fits(&self, many: u16, one: usize) -> bool
+        requires one { one < length self.now.meetings.now }
+        ensures { IsTrue result ↔ Fits many self.now.meetings.now self.now.rounds.now one }
+    {
+        self.rounds[one] < many && !(0..one).any(|other| self.clash(one, other))
+    }
+
+    // Each meeting fits in with the earlier ones.
+    fn all_fit(&self, many: u16) -> bool
+        ensures { IsTrue result ↔ ((i : ℕ) → i < length self.now.meetings.now → Fits many self.now.meetings.now self.now.rounds.now i) }
+    {
+        (0..self.meetings.len()).all(|one| self.fits(many, one))
+    }
 }
 
 // The first rounds, one for each meeting, are a plan with so many rounds. What lies beyond them does not matter.
 pub fn is_plan(meetings: &[Meeting], rounds: &[u16], many: u16) -> bool
     ensures { IsTrue result ↔ Plan many meetings.now (take (length meetings.now) rounds.now) }
 {
-    meetings.len() <= rounds.len() && all_fit(meetings, rounds, many)
+    meetings.len() <= rounds.len() && Rounds { meetings, rounds }.all_fit(many)
 }
