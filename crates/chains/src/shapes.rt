@@ -21,7 +21,7 @@ fn row_width(long: usize, parties: u16, rounds: u16, which: Lent) -> Result<u16,
     requires some { 1 ≤ parties }
     ensures { outcome (λ w. w) result ≡ lent_width parties long rounds which }
 {
-    // `as`, since it is proved to fit
+    // as entries of a slice are numbered: `NONE` is no round; `as`, since it is proved to fit
     let width = (long / usize::from(parties)).min(usize::from(NONE)) as u16;
     if width < rounds {
         return Err(Refusal::ShortSlice(which));

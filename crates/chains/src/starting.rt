@@ -8,7 +8,7 @@ ghost use Rattle.chains.specs.Shapes.{Sized};
 use crate::board::NONE;
 use crate::shapes::Shape;
 
-// Clears the rows in use, and no more.
+// Clears the rows in use, and no more. What is written are entries of a lent slice.
 fn clear_rows(rows: &mut [u16], parties: u16, width: u16)
     requires room { parties * width ≤ length rows.old }
     ensures { rows.new ≡ replicate (parties * width) none ++ drop (parties * width) rows.old }

@@ -20,6 +20,7 @@ pub fn lowest_common_free(one: &[u16], other: &[u16], rounds: u16) -> Option<Rou
 }
 
 // The first of so many rounds that is free in both rows. A function of its own: what `find` answers is said in its own words.
+// Entries are compared as they lie in the lent slices.
 fn first_common_free(one: &[u16], other: &[u16], rounds: u16) -> Option<u16>
     requires one { rounds ≤ length one.now }
     requires other { rounds ≤ length other.now }

@@ -77,6 +77,7 @@ fn longest_chains(rt: HostRuntime) -> Result<(), Fail> {
     for groups in [2u8, 3, 8, 119] {
         let mut meetings = Vec::new(heap);
         let mut rounds = Vec::new(heap);
+        // a loop, since each group adds two meetings, and their rounds to another list
         for group in 1..groups {
             meetings.push((group, group))?;
             rounds.push(1u16)?;
