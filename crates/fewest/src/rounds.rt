@@ -9,25 +9,17 @@ use crate::tally::Tally;
 use meetings::{MeetingList, Refusal};
 use std::alloc::Global;
 
-// The larger of what the busiest group or station has, and of what the rooms ask for. By itself, so that a wrong number is
-// refused here, and not in the proof of the theorems on it.
-#[tactic(auto, using(crate::proofs::NoFewer::rounded_up))]
-fn number_of_rounds(heap: Global, list: &MeetingList) -> Result<u16, Refusal>
-    ensures { IfMemory result (λ x. x ≡ fewest (contents list.now)) }
-{
-    let tally = Tally::of(heap, list)?;
-    // `as`, since it is proved to fit
-    let by_rooms = (list.meetings().len() as u16).div_ceil(list.rooms());
-    Ok(tally.busiest().max(by_rooms))
-}
-
-// The fewest rounds in which all meetings can be held. It is the least number that suffices for the busiest and for the
+// The fewest rounds in which all meetings can be held: the larger of what the busiest group or station has, and of what the rooms
+// ask for. It is the least number that suffices for the busiest and for the
 // rooms, and no plan within the rooms has fewer. Only memory can be wanting.
-#[tactic(auto, using(crate::proofs::NoFewer::least_said))]
+#[tactic(auto, using(crate::proofs::NoFewer::rounded_up, crate::proofs::NoFewer::least_said))]
 pub fn fewest_rounds(heap: Global, list: &MeetingList) -> Result<u16, Refusal>
     ensures answer { IfMemory result (λ x. x ≡ fewest (contents list.now)) }
     ensures least { IfOk result (Least (contents list.now)) }
     ensures no_fewer { IfOk result (LeastOfPlans (contents list.now)) }
 {
-    number_of_rounds(heap, list)
+    let tally = Tally::of(heap, list)?;
+    // `as`, since it is proved to fit
+    let by_rooms = (list.meetings().len() as u16).div_ceil(list.rooms());
+    Ok(tally.busiest().max(by_rooms))
 }

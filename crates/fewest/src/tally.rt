@@ -10,15 +10,14 @@ ghost use Rattle.fewest.specs.Tallies.{Counts, Tallied};
 use meetings::{Meeting, MeetingList, Refusal};
 use std::alloc::Global;
 
-// The number of meetings of each group and of each station.
+// The number of meetings of each group and of each station: by their numbers, which have no gaps.
 #[derive(Drop)]
 pub struct Tally {
     groups: Vec<u16>,
     stations: Vec<u16>,
 }
 
-// One pass over the meetings: each is counted for its group and for its station. By itself, over slices, so that a wrong
-// count is refused here, and not in a proof of the tally.
+// One pass over the meetings: each is counted for its group and for its station.
 fn count_meetings(meetings: &[Meeting], groups: &mut [u16], stations: &mut [u16])
     requires few { length meetings.now ≤ most_meetings }
     requires exist { Exist (length groups.old) (length stations.old) meetings.now }
@@ -42,7 +41,7 @@ fn largest_of(numbers: &[u16]) -> u16
     numbers.iter().copied().max().unwrap_or(0)
 }
 
-// A getter for each field: callers name the side that they want.
+// A getter for each field, as a list has them: one that takes a side would be a `match` over the two.
 impl Tally {
     // Counts the meetings of a list. Only memory can be wanting.
     pub fn of(heap: Global, list: &MeetingList) -> Result<Tally, Refusal>

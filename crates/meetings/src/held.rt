@@ -5,7 +5,7 @@ ghost use Rattle.meetings.specs.Held.{contents};
 use crate::list::MeetingList;
 use crate::numbers::Meeting;
 
-// One for each field: the fields are private to the crate, so that reading alone makes a list.
+// One for each field: the fields are private to the crate, so that reading alone makes a list, and each is asked for by name.
 impl MeetingList {
     // How many groups there are, 1 to 120.
     pub fn groups(&self) -> u16

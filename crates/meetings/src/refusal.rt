@@ -72,6 +72,7 @@ impl Refusal {
     {
         match *self {
             Refusal::Length(at) => at,
+            // `as` here and at the slices, since that is how a variant gives its number
             Refusal::OutOfLimits(which) => which as usize,
             Refusal::TooManyMeetings => 3,
             Refusal::NoSuchParty(at) => at,
