@@ -9,8 +9,8 @@ use Rattle.meetings.specs.declared.numbers.Side.TheVariants.{Groups, Stations}
 use Rattle.fewest.specs.Plans.{none}
 use Rattle.chains.specs.declared.board.Board.{Board}
 use Rattle.chains.specs.declared.shapes.Shape.{Shape}
-use Rattle.chains.specs.Boards.{Becomes}
-use Rattle.chains.specs.Given.{Proper, number_of}
+use Rattle.chains.specs.Boards.{Becomes, meetings_on, rounds_on}
+use Rattle.chains.specs.Given.{WithinOrNone, entry_of}
 use Rattle.chains.specs.Rows.{Beyond, Holds, FreeFor, WithinRows}
 use Rattle.chains.specs.Partial.{Vacant, round_of, party_of}
 use Rattle.chains.proofs.RowsKept.{rows_placed, rows_taken}
@@ -92,10 +92,17 @@ free_taken ms ms' z xs xs' i c h some free same out s =
     free
 
 -- a round that is given and is not none lies within the rows
-pub proper_within : (z : Shape) (o : Option Round) (c : Round) → o ≡ Some c → Proper z o → WithinRows z c.0
-proper_within z o c e ok = subst (λ x. Proper z x) e ok
+pub given_within : (z : Shape) (o : Option Round) (c : Round) → o ≡ Some c → WithinOrNone z o → WithinRows z c.0
+given_within z o c e ok = subst (λ x. WithinOrNone z x) e ok
 
 -- nothing below the width of rows is none
-pub proper_cases : (z : Shape) (o : Option Round) → Proper z o → (number_of o ≡ none) ⊎ WithinRows z (number_of o)
-proper_cases z None ok = inl refl
-proper_cases z (Some c) ok = inr ok
+pub given_cases : (z : Shape) (o : Option Round) → WithinOrNone z o → (entry_of o ≡ none) ⊎ WithinRows z (entry_of o)
+given_cases z None ok = inl refl
+given_cases z (Some c) ok = inr ok
+
+-- one that was taken out to be given a round is free in it
+pub give_free : (d e : Board) (i : ℕ) (o : Option Round) (c : Round) → i < length (meetings_on d) → o ≡ Some c → WithinOrNone d.shape o → FreeFor (meetings_on d) d.shape (rounds_on d) i (entry_of o) → Becomes d e (set (rounds_on d) i none) → (s : Side) → Vacant (meetings_on e) (rounds_on e) s (party_of (meetings_on e) s i) c.0
+give_free d e i o c h is within free out =
+    let here : i < length (rounds_on d) = omega (arith, d.held.each) in
+    let some : c.0 ≡ none → ⊥ = λ f. omega (arith, (given_within d.shape o c is within).0, d.held.groups.narrow) in
+    free_taken (meetings_on d) (meetings_on e) d.shape (rounds_on d) (rounds_on e) i c.0 here some (rw (← ap entry_of is) free) out.meetings out.rounds

@@ -30,11 +30,12 @@ pub record Following (t : Two) (v : Found) (side : Side) (from : ℕ) (w : Found
 
 module _ (t : Two) (few : t.many ≤ none) (v w : Found) (side s : Side) (from j : ℕ) (f : Following t v side from w s j) where
   -- a neighbour that there is
-  pub neighbour_there : (z : ℕ) → z ≡ near t s j → (near t s j ≡ none → ⊥) → z < t.many
+  neighbour_there : (z : ℕ) → z ≡ near t s j → (near t s j ≡ none → ⊥) → z < t.many
   neighbour_there z e some = ⊎_elim (λ past. absurd (some past)) (λ below. rw e below) (at_cases t.many (t.party s) t.round (t.party s j) _)
 
-  pub follow_on : (z : ℕ) (w' : Found) (s' : Side) → s' ≡ other_side s → z ≡ near t s j → z < t.many → holds (found_in w) z ≡ false → Finds w w' (found_in w ++ z ∷ []) → Following t v side from w' s' z
-  follow_on z w' s' through e below out more =
+  pub follow_on : (z : ℕ) (w' : Found) (s' : Side) → s' ≡ other_side s → z ≡ near t s j → (near t s j ≡ none → ⊥) → holds (found_in w) z ≡ false → Finds w w' (found_in w ++ z ∷ []) → Following t v side from w' s' z
+  follow_on z w' s' through e some out more =
+      let below = neighbour_there z e some in
       let near_below : near t s j < t.many = omega arith in
       let near_out : holds (found_in w) (near t s j) ≡ false = ap (holds (found_in w)) (sym e) ∙ out in
       let held : holds (found_in w') ≡ with_one (holds (found_in w)) z = ap holds more.list ∙ holds_more (found_in w) z in
@@ -47,9 +48,9 @@ module _ (t : Two) (few : t.many ≤ none) (v w : Found) (side s : Side) (from j
       }
 
   -- what is left falls
-  pub follow_falls : (z : ℕ) (w' : Found) → z < t.many → holds (found_in w) z ≡ false → Finds w w' (found_in w ++ z ∷ []) → left_of (holds (found_in w')) t.many < left_of (holds (found_in w)) t.many
-  follow_falls z w' below out more =
-      omega (arith, left_with_one (holds (found_in w)) z t.many below out, ap (λ V. left_of V t.many) (ap holds more.list ∙ holds_more (found_in w) z))
+  pub follow_falls : (z : ℕ) (w' : Found) → z ≡ near t s j → (near t s j ≡ none → ⊥) → holds (found_in w) z ≡ false → Finds w w' (found_in w ++ z ∷ []) → left_of (holds (found_in w')) t.many < left_of (holds (found_in w)) t.many
+  follow_falls z w' e some out more =
+      omega (arith, left_with_one (holds (found_in w)) z t.many (neighbour_there z e some) out, ap (λ V. left_of V t.many) (ap holds more.list ∙ holds_more (found_in w) z))
 
   pub follow_ends : (z : ℕ) → z ≡ near t s j → (z ≡ none) ⊎ (holds (found_in w) z ≡ true) → Finds v w (found_in v ++ walked t (holds (found_in v)) side from)
   follow_ends z e stop = record {

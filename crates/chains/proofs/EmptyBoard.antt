@@ -1,9 +1,14 @@
 -- Cleared rows are the rows of meetings without a round. Assumes nothing.
-use Rattle.std.proofs.Common.{◌≡◌, ℕ, ◌+◌, ◌*◌, ◌<◌, ◌≤◌, List, ◌++◌, length, get_or, drop, replicate, ap, ◌∙◌, ⊎_elim, mul-le-mul_right, suc-mul, arith}
+use Rattle.std.proofs.Common.{◌≡◌, ℕ, zero, suc, ◌+◌, ◌*◌, ◌<◌, ◌≤◌, List, ◌++◌, length, get_or, drop, replicate, ap, ◌∙◌, ⊎_elim, mul-le-mul_right, suc-mul, arith}
 use Rattle.std.proofs.lemmas.List.{drop_at, get_or_append_left, get_or_past, get_or-replicate, length-append, length-drop, length-replicate}
 use Rattle.std.proofs.lemmas.Bool.{cases_lt}
 use Rattle.fewest.specs.Plans.{none}
-use Rattle.chains.specs.Rows.{Rows, Beyond}
+use Rattle.meetings.specs.declared.numbers.Meeting.{Meeting}
+use Rattle.meetings.specs.declared.numbers.Side.TheVariants.{Groups, Stations}
+use Rattle.meetings.specs.Lists.{Exist}
+use Rattle.chains.specs.declared.shapes.Shape.{Shape}
+use Rattle.chains.specs.Rows.{Beyond, Holds, Rows}
+use Rattle.chains.specs.Shapes.{Sized}
 use Rattle.chains.proofs.RowsKept.{place_before}
 
 module _ (n w : ℕ) (rows rows' : List ℕ) (room : n * w ≤ length rows) (cleared : rows' ≡ replicate (n * w) none ++ drop (n * w) rows) where
@@ -32,3 +37,23 @@ module _ (n w : ℕ) (rows rows' : List ℕ) (room : n * w ≤ length rows) (cle
 -- nobody has a round
 pub none_at : (m i : ℕ) → get_or (replicate m none) i none ≡ none
 none_at m i = ⊎_elim (λ h. get_or-replicate m i none none h) (λ h. get_or_past (replicate m none) i none (omega (arith, length-replicate m none))) (cases_lt i m)
+
+rows_room : (m : ℕ) (party rnd : ℕ → ℕ) (n w : ℕ) (rows : List ℕ) → Rows m party rnd n w rows → n * w ≤ length rows
+rows_room m party rnd zero w rows r = omega arith
+rows_room m party rnd (suc p) w rows r = let more = suc-mul p w in omega (arith, r.room p (omega arith))
+
+-- slices that are a board are as long as it asks for
+pub sized_as_held : (ms : List Meeting) (z : Shape) (xs gs ss : List ℕ) → Holds ms z xs gs ss → Sized ms z xs gs ss
+sized_as_held ms z xs gs ss b = record {
+  few = b.few;
+  each = b.each;
+  exist = exist;
+  group_narrow = b.groups.narrow;
+  station_narrow = b.stations.narrow;
+  group_room = rows_room _ _ _ _ _ _ b.groups;
+  station_room = rows_room _ _ _ _ _ _ b.stations;
+}
+  where
+    exist : Exist z.groups z.stations ms
+    exist Groups = b.groups.parties
+    exist Stations = b.stations.parties

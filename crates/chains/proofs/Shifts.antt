@@ -79,6 +79,10 @@ came_to : (u v o c : ℕ) (h : Bool) → o ≡ given u v h c → o ≡ v → ((h
 came_to u v o c true e f = ⊎_elim (λ same. inl (refl, same)) (λ other. inr (grind (arith, nat_tests))) (cases_eq c u)
 came_to u v o c false e f = inr (grind (arith, nat_tests))
 
+-- a member of the list is a meeting
+pub member_here : (ms : List Meeting) (xs is : List ℕ) (u v t : ℕ) → Movable ms xs is u v → t < length is → get_or is t 0 < length ms
+member_here ms xs is u v t m h = m.below (get_or is t 0) (place_held is t 0 h)
+
 -- the next member that is in u may have v
 shift_free : (ms : List Meeting) (z : Shape) (u v t : ℕ) (is xs : List ℕ) (i : ℕ) → length xs ≡ length ms → Movable ms xs is u v → (v ≡ none) ⊎ WithinRows z v → holds is i ≡ true → ((j : ℕ) → holds (take t is) j ≡ true → holds is j ≡ true) → round_of (shifted u v (take t is) xs) i ≡ u → FreeFor ms z (shifted u v (take t is) xs) i v
 shift_free ms z u v t is xs i each m within member sub e =

@@ -7,7 +7,7 @@ use Rattle.chains.specs.declared.board.Board.{Board}
 use Rattle.chains.specs.declared.neighbours.TwoRounds.{TwoRounds}
 use Rattle.chains.specs.Chains.{Two, two, in_two}
 use Rattle.chains.specs.Partial.{party_of}
-use Rattle.chains.specs.Rows.{WithinRows, Beyond}
+use Rattle.chains.specs.Rows.{WithinRows, Beyond, width_of}
 
 -- the meetings of a board and their rounds
 abbrev pub meetings_on : Board → List Meeting
@@ -33,11 +33,8 @@ rows_of Groups d = d.group_rows.now
 rows_of Stations d = d.station_rows.now
 
 -- the place of an entry in the rows of a side: that of the party of meeting i at round c
-abbrev pub group_place : Board → ℕ → ℕ → ℕ
-group_place d i c = party_of (meetings_on d) Groups i * d.shape.group_width + c
-
-abbrev pub station_place : Board → ℕ → ℕ → ℕ
-station_place d i c = party_of (meetings_on d) Stations i * d.shape.station_width + c
+abbrev pub place_of : Board → Side → ℕ → ℕ → ℕ
+place_of d s i c = party_of (meetings_on d) s i * width_of s d.shape + c
 
 -- the board d becomes e, in the same slices: the meetings have the rounds xs now
 pub record Becomes (d e : Board) (xs : List ℕ) : Type 0 where

@@ -6,11 +6,11 @@ use Rattle.chains.specs.declared.shapes.Shape.{Shape}
 use Rattle.chains.specs.Rows.{WithinRows}
 
 -- how a round or none is written in a lent slice
-abbrev pub number_of : Option Round → ℕ
-number_of None = none
-number_of (Some c) = c.0
+abbrev pub entry_of : Option Round → ℕ
+entry_of None = none
+entry_of (Some c) = c.0
 
 -- a round for which all rows have an entry, or none
-abbrev pub Proper : Shape → Option Round → Type 0
-Proper z None = ⊤
-Proper z (Some c) = WithinRows z c.0
+abbrev pub WithinOrNone : Shape → Option Round → Type 0
+WithinOrNone z None = ⊤
+WithinOrNone z (Some c) = WithinRows z c.0

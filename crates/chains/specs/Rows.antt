@@ -24,6 +24,10 @@ pub record Rows (m : ℕ) (party round : ℕ → ℕ) (n w : ℕ) (rows : List �
 abbrev pub WithinRows : Shape → ℕ → Type 0
 WithinRows z c = (c < z.group_width) × (c < z.station_width)
 
+-- so many rounds, for each of which all rows have an entry
+abbrev pub ManyWithin : Shape → ℕ → Type 0
+ManyWithin z r = (r ≤ z.group_width) × (r ≤ z.station_width)
+
 -- the board: what the three slices hold where the meetings have the rounds xs
 pub record Holds (ms : List Meeting) (z : Shape) (xs gs ss : List ℕ) : Type 0 where
   pub few : length ms ≤ none

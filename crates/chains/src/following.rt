@@ -17,7 +17,7 @@ impl Board<'_> {
         requires all { among_all found.old ≡ length (meetings_on self.now) }
         ensures { Finds found.old found.new (found_in found.old ++ walked (two_on self.now rounds) (holds (found_in found.old)) side from.0) }
     {
-        // left by its label, since it ends in its midst and hands on two values
+        // a loop along a chain is left by its label, here as everywhere
         let mut at = from;
         let mut through = side;
         'chain: loop {

@@ -8,7 +8,8 @@ ghost use Rattle.chains.specs.Partial.{Unless};
 use crate::board::Board;
 use meetings::{MeetingId, Round, Side};
 
-// Two rounds that are looked at together. They are no part of a board that is lent, since an exchange writes it in between.
+// Two rounds that are looked at together. They are not kept with a board in one value, since between following a chain and
+// exchanging on it the board is read and then written.
 #[derive(Clone, Copy)]
 pub struct TwoRounds {
     pub a: Round,

@@ -15,6 +15,14 @@ fn unless_none(entry: u16) -> Option<u16>
     if entry == NONE { None } else { Some(entry) }
 }
 
+// The round of a meeting in a slice of rounds, if it has one.
+pub fn round_in(rounds: &[u16], meeting: MeetingId) -> Option<Round>
+    requires here { meeting.0 < length rounds.now }
+    ensures { Unless none (λ c. c.0) result (round_of rounds.now meeting.0) }
+{
+    unless_none(rounds[usize::from(meeting.0)]).map(Round)
+}
+
 impl Board<'_> {
     // The group or the station of a meeting.
     pub fn party_of(&self, meeting: MeetingId, side: Side) -> u16
@@ -29,7 +37,7 @@ impl Board<'_> {
         requires here { meeting.0 < length (rounds_on self.now) }
         ensures { Unless none (λ c. c.0) result (round_of (rounds_on self.now) meeting.0) }
     {
-        unless_none(self.rounds[usize::from(meeting.0)]).map(Round)
+        round_in(self.rounds, meeting)
     }
 
     // The meeting that a group or a station has in a round, if it has one there.
@@ -58,7 +66,7 @@ impl Board<'_> {
 }
 
 // The row of a party in the rows of its side.
-fn row_in(rows: &[u16], width: u16, party: u16) -> &[u16]
+pub fn row_in(rows: &[u16], width: u16, party: u16) -> &[u16]
     requires room { party * width + width ≤ length rows.now }
     ensures { result.now ≡ take width (drop (party * width) rows.now) }
 {

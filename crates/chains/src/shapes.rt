@@ -7,7 +7,8 @@ ghost use Rattle.chains.specs.Shapes.{lent_shape, lent_width};
 use crate::board::NONE;
 use meetings::{Lent, MeetingList, Refusal};
 
-// How many groups and stations there are, and how long the row of each is.
+// How many groups and stations there are, and how long the row of each is. By name, and not a pair for each side: nearly every
+// use names the side.
 #[derive(Clone, Copy)]
 pub struct Shape {
     pub(crate) groups: u16,
@@ -21,7 +22,7 @@ fn row_width(long: usize, parties: u16, rounds: u16, which: Lent) -> Result<u16,
     requires some { 1 ≤ parties }
     ensures { outcome (λ w. w) result ≡ lent_width parties long rounds which }
 {
-    // as entries of a slice are numbered: `NONE` is no round; `as`, since it is proved to fit
+    // a row ends before round 65,535, since that number is none in a lent slice; `as`, since it is proved to fit
     let width = (long / usize::from(parties)).min(usize::from(NONE)) as u16;
     if width < rounds {
         return Err(Refusal::ShortSlice(which));
@@ -30,7 +31,8 @@ fn row_width(long: usize, parties: u16, rounds: u16, which: Lent) -> Result<u16,
 }
 
 impl Shape {
-    // The shape of a board over lent slices of these lengths, for so many rounds. A slice that is too short is refused.
+    // The shape of a board over lent slices of these lengths, for so many rounds: three, as a caller lends them. A slice that is
+    // too short is refused.
     pub fn of_lent(
         list: &MeetingList,
         rounds: u16,

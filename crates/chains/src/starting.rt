@@ -2,10 +2,11 @@
 ghost use Rattle.std.specs.Prelude.{◌≡◌, ◌*◌, ◌≤◌, List, ◌++◌, length, drop, replicate};
 ghost use Rattle.meetings.specs.declared.numbers.Meeting.{Meeting};
 ghost use Rattle.fewest.specs.Plans.{none};
+ghost use Rattle.chains.specs.Boards.{Becomes, meetings_on};
 ghost use Rattle.chains.specs.Starting.{Emptied};
 ghost use Rattle.chains.specs.Shapes.{Sized};
 
-use crate::board::NONE;
+use crate::board::{Board, NONE};
 use crate::shapes::Shape;
 
 // Clears the rows in use, and no more. What is written are entries of a lent slice.
@@ -14,6 +15,18 @@ fn clear_rows(rows: &mut [u16], parties: u16, width: u16)
     ensures { rows.new ≡ replicate (parties * width) none ++ drop (parties * width) rows.old }
 {
     rows[0..usize::from(parties) * usize::from(width)].fill(NONE);
+}
+
+impl Board<'_> {
+    // Empties the board: no meeting has a round.
+    pub fn empty(&mut self)
+        ensures { Becomes self.old self.new (replicate (length (meetings_on self.old)) none) }
+    {
+        let rounds = &mut *self.rounds;
+        let group_rows = &mut *self.group_rows;
+        let station_rows = &mut *self.station_rows;
+        empty(self.shape, rounds, group_rows, station_rows);
+    }
 }
 
 // Empties three slices, whatever they held: they are a board then on which no meeting has a round.

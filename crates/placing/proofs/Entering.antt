@@ -28,7 +28,6 @@ enters l ms z r xs gs ss same is ok =
         group_room = rows_fit d.groups (length gs);
         station_room = rows_fit d.stations (length ss);
       };
-      group_width = fits.groups;
-      station_width = fits.stations;
+      within = (fits.groups, fits.stations);
       spare = spare_at d r (proper l).exist enough;
     })

@@ -5,6 +5,7 @@ pub mod Found
 pub mod FreeRounds
 pub mod LentEnough
 pub mod Opens
+pub mod Promised
 pub mod PutAll
 pub mod PutOne
 pub mod RowsSearched

@@ -7,7 +7,7 @@ use Rattle.fewest.specs.Plans.{Plan}
 use Rattle.fewest.specs.Rounds.{fewest}
 use Rattle.fewest.specs.Statements.{LeastOfPlans}
 use Rattle.chains.specs.declared.shapes.Shape.{Shape}
-use Rattle.chains.specs.Rows.{Holds, Beyond}
+use Rattle.chains.specs.Rows.{Holds, Beyond, ManyWithin}
 use Rattle.chains.specs.Shapes.{Sized, lent_shape, shape_of}
 use Rattle.placing.specs.declared.planned.Planned.{Planned}
 use Rattle.placing.specs.Putting.{put_all}
@@ -16,8 +16,7 @@ use Rattle.placing.specs.Statements.{Spare}
 -- slices that a board of this shape can be kept in, for meetings that r rounds are enough for
 pub record LentFor (ms : List Meeting) (z : Shape) (r : ℕ) (xs gs ss : List ℕ) : Type 0 where
   pub sized : Sized ms z xs gs ss
-  pub group_width : r ≤ z.group_width
-  pub station_width : r ≤ z.station_width
+  pub within : ManyWithin z r
   pub spare : (i : ℕ) → i < length ms → Spare r ms i
 
 -- slices of rows gs and ss that became gs' and ss': they are the rows of the rounds xs, and nothing else was written

@@ -7,7 +7,7 @@ use Rattle.chains.specs.declared.found.Found.{Found}
 use Rattle.chains.specs.Boards.{Becomes, meetings_on, rounds_on}
 use Rattle.chains.specs.Exchanges.{exchanged}
 use Rattle.chains.specs.Partial.{Vacant, party_of, round_of}
-use Rattle.chains.specs.Rows.{WithinRows}
+use Rattle.chains.specs.Rows.{ManyWithin, WithinRows}
 use Rattle.chains.specs.Finding.{Finds, Unused}
 use Rattle.placing.specs.Putting.{Placed, chain_for}
 use Rattle.placing.specs.Statements.{Opens, Ready}
@@ -15,8 +15,7 @@ use Rattle.placing.specs.Statements.{Opens, Ready}
 -- meeting i can be put in into one of r rounds on the board d, and v has found nothing yet
 pub record ReadyOn (d : Board) (v : Found) (r i : ℕ) : Type 0 where
   pub ready : Ready d.shape.groups d.shape.stations r (meetings_on d) (rounds_on d) i
-  pub group_width : r ≤ d.shape.group_width
-  pub station_width : r ≤ d.shape.station_width
+  pub within : ManyWithin d.shape r
   pub unused : Unused v (length (meetings_on d))
 
 -- meeting i has no round on the board d, its chain in a and b opens a for it, and v has found nothing yet

@@ -1,8 +1,9 @@
 // Putting in all meetings of a list.
-ghost use Rattle.std.specs.Prelude.{◌≡◌, ℕ, ◌<◌, ◌≤◌, [], length, replicate};
+ghost use Rattle.std.specs.Prelude.{◌≡◌, ℕ, ◌<◌, ◌≤◌, length, replicate};
 ghost use Rattle.fewest.specs.Plans.{none};
 ghost use Rattle.chains.specs.Boards.{meetings_on, rounds_on};
-ghost use Rattle.chains.specs.Finding.{Finds, Unused};
+ghost use Rattle.chains.specs.Finding.{Unused};
+ghost use Rattle.chains.specs.Rows.{ManyWithin};
 ghost use Rattle.placing.specs.Lent.{BoardLent, LentFor};
 ghost use Rattle.placing.specs.OnBoard.{PutsOn};
 ghost use Rattle.placing.specs.Putting.{placed, put_all};
@@ -15,8 +16,7 @@ use meetings::{Meeting, MeetingId};
 // Puts in one meeting after the other, none of which has a round yet.
 fn put_each(board: &mut Board<'_>, rounds: u16, found: &mut Found) -> u64
     requires out { rounds_on board.old ≡ replicate (length (meetings_on board.old)) none }
-    requires group_width { rounds ≤ board.old.shape.group_width }
-    requires station_width { rounds ≤ board.old.shape.station_width }
+    requires within { ManyWithin board.old.shape rounds }
     requires spare { (i : ℕ) → i < length (meetings_on board.old) → Spare rounds (meetings_on board.old) i }
     requires unused { Unused found.old (length (meetings_on board.old)) }
     ensures { PutsOn board.old board.new found.old found.new (put_all rounds (meetings_on board.old)) result }
@@ -29,9 +29,21 @@ fn put_each(board: &mut Board<'_>, rounds: u16, found: &mut Found) -> u64
     looks
 }
 
-// Puts in all meetings, in their order, on a board over the lent slices, which are emptied first. No group and no station has
-// more meetings than there are rounds, so each gets a round; the looks are 1 + n + k at most for each.
-pub fn put_in_all(
+// Puts in all meetings, in their order, on a board that is emptied first. No group and no station has more meetings than there
+// are rounds, so each gets a round; the looks are 1 + n + k at most for each.
+pub fn put_in_all(board: &mut Board<'_>, rounds: u16, found: &mut Found) -> u64
+    requires within { ManyWithin board.old.shape rounds }
+    requires spare { (i : ℕ) → i < length (meetings_on board.old) → Spare rounds (meetings_on board.old) i }
+    requires unused { Unused found.old (length (meetings_on board.old)) }
+    ensures rule { PutsOn board.old board.new found.old found.new (put_all rounds (meetings_on board.old)) result }
+    ensures placed { PlacedAll board.old.shape.groups board.old.shape.stations rounds (meetings_on board.old) (placed (rounds_on board.new) result) }
+{
+    board.empty();
+    put_each(board, rounds, found)
+}
+
+// Puts in all meetings on a board over the lent slices, which are emptied first.
+pub(crate) fn put_in_lent(
     meetings: &[Meeting],
     shape: Shape,
     many: u16,
@@ -45,7 +57,6 @@ pub fn put_in_all(
     ensures rounds { rounds.new ≡ (put_all many meetings.now).rounds }
     ensures looks { result ≡ (put_all many meetings.now).looks }
     ensures rows { BoardLent meetings.now shape rounds.new group_rows.old group_rows.new station_rows.old station_rows.new }
-    ensures forgotten { Finds found.old found.new [] }
     ensures placed { PlacedAll shape.groups shape.stations many meetings.now (placed rounds.new result) }
 {
     empty(shape, rounds, group_rows, station_rows);

@@ -5,6 +5,7 @@ ghost use Rattle.fewest.specs.Plans.{none};
 ghost use Rattle.chains.specs.Boards.{meetings_on, rounds_on};
 ghost use Rattle.chains.specs.Lowest.{lowest};
 ghost use Rattle.chains.specs.Partial.{Unless};
+ghost use Rattle.chains.specs.Rows.{ManyWithin};
 ghost use Rattle.placing.specs.Putting.{common_free, own_free};
 
 use chains::{Board, NONE};
@@ -32,8 +33,7 @@ fn first_common_free(one: &[u16], other: &[u16], rounds: u16) -> Option<u16>
 // The lowest round in which the group and the station of a meeting are both free, if there is one.
 pub(crate) fn common_free(board: &Board<'_>, rounds: u16, meeting: MeetingId) -> Option<Round>
     requires here { meeting.0 < length (meetings_on board.now) }
-    requires group_width { rounds ≤ board.now.shape.group_width }
-    requires station_width { rounds ≤ board.now.shape.station_width }
+    requires within { ManyWithin board.now.shape rounds }
     ensures { Unless rounds (λ c. c.0) result (common_free rounds (meetings_on board.now) (rounds_on board.now) meeting.0) }
 {
     let group_row = board.row(Side::Groups, board.party_of(meeting, Side::Groups));
@@ -50,8 +50,7 @@ pub(crate) fn own_free(
     meeting: MeetingId,
 ) -> Option<Round>
     requires here { meeting.0 < length (meetings_on board.now) }
-    requires group_width { rounds ≤ board.now.shape.group_width }
-    requires station_width { rounds ≤ board.now.shape.station_width }
+    requires within { ManyWithin board.now.shape rounds }
     ensures { Unless rounds (λ c. c.0) result (own_free rounds (meetings_on board.now) (rounds_on board.now) meeting.0 side) }
 {
     let row = board.row(side, board.party_of(meeting, side));

@@ -4,7 +4,7 @@ ghost use Rattle.meetings.specs.Held.{contents};
 ghost use Rattle.meetings.specs.Refusals.{Answers};
 ghost use Rattle.placing.specs.Lent.{PlacedLent, PlansAll, Unchanged, place_all};
 
-use crate::all::put_in_all;
+use crate::all::put_in_lent;
 use crate::planned::Planned;
 use chains::{Found, Shape};
 use fewest::fewest_rounds;
@@ -35,7 +35,7 @@ pub fn place_all(
     )?;
     let meetings = list.meetings();
     let mut found = Found::none(heap, meetings.len())?;
-    let looks = put_in_all(
+    let looks = put_in_lent(
         meetings,
         shape,
         many,

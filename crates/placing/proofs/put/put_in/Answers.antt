@@ -19,7 +19,7 @@ place-requires c =
     record {
       here = ready.here;
       out = ready.out;
-      within = (omega (arith, c.requires.group_width), omega (arith, c.requires.station_width));
+      within = (omega (arith, c.requires.within.0), omega (arith, c.requires.within.1));
       group_free = free Groups;
       station_free = free Stations;
     }
@@ -58,8 +58,8 @@ put_by_chain-requires c =
     let none_common : r ≤ common_free r (meetings_on d) (rounds_on d) i = omega (arith, c.in_default.ensures) in
     let found = chain_found_opens _ _ r (meetings_on d) (rounds_on d) i c.requires.ready _ _ none_common a b in
     record {
-      one = (omega (arith, found.0, c.requires.group_width), omega (arith, found.0, c.requires.station_width));
-      other = (omega (arith, found.1, c.requires.group_width), omega (arith, found.1, c.requires.station_width));
+      one = (omega (arith, found.0, c.requires.within.0), omega (arith, found.0, c.requires.within.1));
+      other = (omega (arith, found.1, c.requires.within.0), omega (arith, found.1, c.requires.within.1));
       here = c.requires.ready.here;
       out = c.requires.ready.out;
       opens = found.2;
