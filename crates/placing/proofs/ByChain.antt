@@ -1,5 +1,5 @@
 -- The chain that was found is the rule's, it can be exchanged, and then the meeting can be placed. Assumes nothing.
-use Rattle.std.proofs.Common.{◌≡◌, ℕ, ◌<◌, ◌≤◌, ◌&&◌, ltb, List, [], ◌++◌, length, set, sym, ap, ◌∙◌, arith}
+use Rattle.std.proofs.Common.{◌≡◌, ℕ, ◌<◌, ◌≤◌, ◌&&◌, ltb, List, [], ◌++◌, length, set, sym, refl, ap, ◌∙◌, arith}
 use Rattle.std.proofs.lemmas.Bool.{cond-false, cond-true, le-ltb, lt-ltb}
 use Rattle.meetings.specs.declared.numbers.Meeting.{Meeting}
 use Rattle.meetings.specs.declared.numbers.Side.{Side}
@@ -16,7 +16,7 @@ use Rattle.chains.specs.Partial.{Vacant, party_of, round_of, meeting_of}
 use Rattle.chains.proofs.Exchange.{exchanged_none}
 use Rattle.chains.proofs.Lowest.{lowest_of}
 use Rattle.placing.specs.Putting.{chain_for, common_free, free, own_free, placed, put, put_by_chain}
-use Rattle.placing.specs.OnBoard.{PutsOn}
+use Rattle.placing.specs.OnBoard.{OpensOn, PutsOn, ReadyOn}
 use Rattle.placing.specs.Statements.{Opens, PutIn, Ready}
 use Rattle.placing.proofs.PutOne.{chain_frees, common_frees, puts, put_in_as}
 use Rattle.placing.proofs.Opens.{chain_opens}
@@ -67,3 +67,24 @@ module _ (n k r : ℕ) (ms : List Meeting) (xs : List ℕ) (i : ℕ) (ready : Re
 -- what the rule leaves on a board has the meeting put in
 pub put_in_on : (d e : Board) (v w : Found) (r i looks : ℕ) → Ready d.shape.groups d.shape.stations r (meetings_on d) (rounds_on d) i → PutsOn d e v w (put r (meetings_on d) (rounds_on d) i) looks → PutIn d.shape.groups d.shape.stations r (meetings_on d) (rounds_on d) i (placed (rounds_on e) looks)
 put_in_on d e v w r i looks ready done = put_in_as _ _ _ _ _ _ _ _ _ done.board.rounds done.looks (puts _ _ r (meetings_on d) (rounds_on d) i ready)
+
+-- without a common free round each of the two has one of its own, and their chain opens the first
+module _ (d : Board) (v : Found) (r i : ℕ) (on : ReadyOn d v r i) (none_common : common_free r (meetings_on d) (rounds_on d) i ≡ r) where
+  found_opens : (a b : ℕ) → a ≡ own_free r (meetings_on d) (rounds_on d) i Groups → b ≡ own_free r (meetings_on d) (rounds_on d) i Stations → (a < r) × (b < r) × Opens d.shape.groups d.shape.stations (meetings_on d) (rounds_on d) i a b (chain_for (meetings_on d) (rounds_on d) i a b)
+  found_opens a b = chain_found_opens _ _ r (meetings_on d) (rounds_on d) i on.ready a b (omega (arith, none_common))
+
+  pub own_there : (s : Side) → own_free r (meetings_on d) (rounds_on d) i s ≡ r → ⊥
+  own_there Groups out = omega (arith, (found_opens _ _ refl refl).0)
+  own_there Stations out = omega (arith, (found_opens _ _ refl refl).1)
+
+  pub opens_on : (a b : ℕ) → a ≡ own_free r (meetings_on d) (rounds_on d) i Groups → b ≡ own_free r (meetings_on d) (rounds_on d) i Stations → OpensOn d v i a b
+  opens_on a b is_a is_b =
+      let found = found_opens a b is_a is_b in
+      record {
+        one = (omega (arith, found.0, on.within.0), omega (arith, found.0, on.within.1));
+        other = (omega (arith, found.1, on.within.0), omega (arith, found.1, on.within.1));
+        here = on.ready.here;
+        out = on.ready.out;
+        opens = found.2;
+        unused = on.unused;
+      }

@@ -1,37 +1,33 @@
--- The first of so many numbers that passes a test is the lowest that does. Assumes nothing.
-use Rattle.std.proofs.Common.{◌≡◌, ℕ, zero, suc, ◌+◌, ◌<◌, ◌≤◌, Bool, true, false, cond, Option, Some, None, MatchOption, sym, ap, ◌∙◌, ⊎_elim, arith}
-use Rattle.std.proofs.lemmas.Bool.{cases_Bool, cases_eq}
-use Rattle.std.specs.List.{find, range_with_len}
+-- The first pair of entries of two rows that passes a test is at the lowest round that does. Assumes nothing.
+use Rattle.std.proofs.Common.{◌≡◌, ℕ, ◌<◌, ◌≤◌, Bool, true, false, cond, ltb, Some, None, List, length, get_or, take, sym, refl, ap, ◌∙◌, arith}
+use Rattle.std.proofs.lemmas.Bool.{ltb-true, ltb-false}
+use Rattle.std.proofs.lemmas.List.{get_or-take, length-take-le}
+use Rattle.std.proofs.lemmas.List.Sums.{fails_before_first, passes_at_first}
+use Rattle.std.proofs.lemmas.Slice.Zip.{get_or-zip, length-zip}
+use Rattle.std.specs.List.{position, position_or_len, zip}
 use Rattle.chains.specs.Lowest.{lowest}
 use Rattle.chains.specs.Partial.{Unless}
 use Rattle.chains.proofs.Lowest.{lowest_is}
 
--- what is found among the n numbers from a on: none of them passes, or it is one that does, and none before it
-abbrev pub FoundFrom : (ℕ → Bool) → ℕ → ℕ → Option ℕ → Type 0
-FoundFrom p a n o = MatchOption o ((i : ℕ) → a ≤ i → i < a + n → p i ≡ false) (λ x. (a ≤ x) × (x < a + n) × (p x ≡ true) × ((i : ℕ) → a ≤ i → i < x → p i ≡ false))
+module _ (p : ℕ × ℕ → Bool) (q : ℕ → Bool) (es : List (ℕ × ℕ)) (n : ℕ) (long : length es ≡ n) (each : (c : ℕ) → c < n → p (get_or es c (0, 0)) ≡ q c) where
+  before : (c : ℕ) → c < n → c < position_or_len p es → q c ≡ false
+  before c h l = sym (each c h) ∙ fails_before_first p es c (0, 0) l
 
-found_from : (p : ℕ → Bool) (n a : ℕ) → FoundFrom p a n (find p (range_with_len a n))
-found_from p zero a = λ i h l. absurd (omega arith)
-found_from p (suc n) a = ⊎_elim (first a n p) (λ fails. later p n a (find p (range_with_len (a + 1) n)) fails (found_from p n (a + 1))) (cases_Bool (p a))
-  where
-    first : (a n : ℕ) (p : ℕ → Bool) → p a ≡ true → FoundFrom p a (suc n) (cond (p a) (Some a) (find p (range_with_len (a + 1) n)))
-    first a n p e = rw e (omega arith, omega arith, e, λ i h l. absurd (omega arith))
+  one_found : (b : Bool) → b ≡ ltb (position_or_len p es) (length es) → Unless n (λ x. x) (cond b (Some (position_or_len p es)) None) (lowest q n)
+  one_found true e =
+      let h : position_or_len p es < n = omega (arith, ltb-true _ _ (sym e)) in
+      let low : lowest q n ≡ position_or_len p es = lowest_is q n _ (record { most = omega arith; before = λ c l. before c (omega arith) l; passes = λ l. sym (each _ h) ∙ passes_at_first p es (0, 0) (omega arith) }) in
+      (sym low, λ out. omega arith)
+  one_found false e =
+      let past : n ≤ position_or_len p es = omega (arith, ltb-false _ _ (sym e)) in
+      lowest_is q n n (record { most = omega arith; before = λ c l. before c l (omega arith); passes = λ l. absurd (omega arith) })
 
-    at : (p : ℕ → Bool) (a i : ℕ) → p a ≡ false → a ≤ i → (a + 1 ≤ i → p i ≡ false) → p i ≡ false
-    at p a i e h more = ⊎_elim (λ same. ap p same ∙ e) (λ other. more (omega arith)) (cases_eq i a)
+  position_lowest : Unless n (λ x. x) (position p es) (lowest q n)
+  position_lowest = one_found (ltb (position_or_len p es) (length es)) refl
 
-    more : (p : ℕ → Bool) (n a : ℕ) (o : Option ℕ) → p a ≡ false → FoundFrom p (a + 1) n o → FoundFrom p a (suc n) o
-    more p n a None e rest = λ i h l. at p a i e h (λ m. rest i m (omega arith))
-    more p n a (Some x) e rest = (omega (arith, rest.0), omega (arith, rest.1), rest.2, λ i h l. at p a i e h (λ m. rest.3 i m l))
-
-    later : (p : ℕ → Bool) (n a : ℕ) (o : Option ℕ) → p a ≡ false → FoundFrom p (a + 1) n o → FoundFrom p a (suc n) (cond (p a) (Some a) o)
-    later p n a o e rest = rw e (more p n a o e rest)
-
-unless_found : (p : ℕ → Bool) (n : ℕ) (o : Option ℕ) → FoundFrom p 0 n o → Unless n (λ x. x) o (lowest p n)
-unless_found p n None none_pass = lowest_is p n n (record { most = omega arith; before = λ i h. none_pass i (omega arith) (omega arith); passes = λ h. absurd (omega arith) })
-unless_found p n (Some x) at =
-    let low : lowest p n ≡ x = lowest_is p n x (record { most = omega (arith, at.1); before = λ i h. at.3 i (omega arith) h; passes = λ h. at.2 }) in
-    (sym low, λ out. omega (arith, at.1))
-
-pub found_lowest : (p : ℕ → Bool) (n : ℕ) → Unless n (λ x. x) (find p (range_with_len 0 n)) (lowest p n)
-found_lowest p n = unless_found p n _ (found_from p n 0)
+-- the first of so many pairs of two rows
+pub found_lowest : (p : ℕ × ℕ → Bool) (xs ys : List ℕ) (n : ℕ) → n ≤ length xs → n ≤ length ys → Unless n (λ x. x) (position p (take n (zip xs ys))) (lowest (λ c. p (get_or xs c 0, get_or ys c 0)) n)
+found_lowest p xs ys n hx hy =
+    position_lowest p (λ c. p (get_or xs c 0, get_or ys c 0)) (take n (zip xs ys)) n
+    (length-take-le n (zip xs ys) (omega (arith, length-zip xs ys)))
+    (λ c h. ap p (get_or-take n (zip xs ys) c (0, 0) h ∙ get_or-zip xs ys c (0, 0) (omega arith) (omega arith)))

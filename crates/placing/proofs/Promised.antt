@@ -1,5 +1,5 @@
 -- What was put in keeps the promise of a plan that was made. Assumes nothing.
-use Rattle.std.proofs.Common.{◌≡◌, ℕ, List, ◌++◌, length, sym, subst}
+use Rattle.std.proofs.Common.{◌≡◌, ℕ, List, ◌++◌, length, subst}
 use Rattle.std.proofs.lemmas.List.{take_at}
 use Rattle.meetings.specs.declared.list.MeetingList.{MeetingList}
 use Rattle.meetings.specs.declared.numbers.Meeting.{Meeting}

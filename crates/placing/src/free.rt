@@ -1,6 +1,6 @@
 // Searching rows for free rounds.
-ghost use Rattle.std.specs.Prelude.{◌≡◌, ◌<◌, ◌≤◌, ◌&&◌, length, ◌==◌, slice_index, find};
-ghost use Rattle.std.specs.List.{range_with_len};
+ghost use Rattle.std.specs.Prelude.{◌≡◌, ◌<◌, ◌≤◌, ◌&&◌, length, ◌==◌, slice_index, position, take};
+ghost use Rattle.std.specs.List.{zip};
 ghost use Rattle.fewest.specs.Plans.{none};
 ghost use Rattle.chains.specs.Boards.{meetings_on, rounds_on};
 ghost use Rattle.chains.specs.Lowest.{lowest};
@@ -17,17 +17,20 @@ pub fn lowest_common_free(one: &[u16], other: &[u16], rounds: u16) -> Option<Rou
     requires other { rounds ≤ length other.now }
     ensures { Unless rounds (λ c. c.0) result (lowest (λ c. (slice_index one.now c == none) && slice_index other.now c == none) rounds) }
 {
-    first_common_free(one, other, rounds).map(Round)
+    // `as`, since it is proved to fit
+    first_common_free(one, other, rounds).map(|round| Round(round as u16))
 }
 
-// The first of so many rounds that is free in both rows. A function of its own: what `find` answers is said in its own words.
-// Entries are compared as they lie in the lent slices.
-fn first_common_free(one: &[u16], other: &[u16], rounds: u16) -> Option<u16>
+// The first place, of so many, at which neither row has a meeting. Entries are compared as they lie in the lent slices.
+fn first_common_free(one: &[u16], other: &[u16], rounds: u16) -> Option<usize>
     requires one { rounds ≤ length one.now }
     requires other { rounds ≤ length other.now }
-    ensures { result ≡ find (λ c. (slice_index one.now c == none) && slice_index other.now c == none) (range_with_len 0 rounds) }
+    ensures { result ≡ position (λ e. (e.0 == none) && e.1 == none) (take rounds (zip one.now other.now)) }
 {
-    (0..rounds).find(|&round| one[usize::from(round)] == NONE && other[usize::from(round)] == NONE)
+    one.iter()
+        .zip(other)
+        .take(usize::from(rounds))
+        .position(|(one, other)| *one == NONE && *other == NONE)
 }
 
 // The lowest round in which the group and the station of a meeting are both free, if there is one.
@@ -41,8 +44,8 @@ pub(crate) fn common_free(board: &Board<'_>, rounds: u16, meeting: MeetingId) ->
     lowest_common_free(group_row, station_row, rounds)
 }
 
-// The lowest round in which the group of a meeting, or its station, is free, if there is one. Apart from the search above, as it
-// is in the rule.
+// The lowest round in which the group of a meeting, or its station, is free, if there is one. One search for both would take a
+// list of sides, and read the rows of a list.
 pub(crate) fn own_free(
     board: &Board<'_>,
     rounds: u16,

@@ -11,7 +11,8 @@ use fewest::fewest_rounds;
 use meetings::{MeetingList, Refusal};
 use std::alloc::Global;
 
-// Places all meetings of a list in the fewest rounds; rooms are not asked. Lent are the rounds of the meetings, a row of rounds
+// Places all meetings of a list in the fewest rounds; rooms are not asked. Three slices are lent, since no memory is taken for a
+// plan: the rounds of the meetings, a row of rounds
 // for each group, and one for each station. A slice that is too short is refused, and memory may be wanting; nothing lent has
 // changed then. Else the lent rounds hold a plan, and no plan within the rooms has fewer rounds.
 pub fn place_all(

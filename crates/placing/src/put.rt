@@ -1,4 +1,5 @@
-// Putting in one meeting.
+// Putting in one meeting. The board, the number of rounds and what was found stay three arguments: each is the caller's, who has
+// it for other things in between.
 ghost use Rattle.std.specs.Prelude.{◌+◌, ◌≤◌};
 ghost use Rattle.fewest.specs.Plans.{none};
 ghost use Rattle.chains.specs.Boards.{meetings_on, rounds_on};

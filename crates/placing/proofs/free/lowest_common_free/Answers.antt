@@ -8,6 +8,6 @@ use Rattle.placing.proofs.free.lowest_common_free.Goals as goal
 
 pub returns : goal.returns
 returns c =
-    let both : ℕ → Bool = λ x. eqb (get_or c.args.one.now x 0) none && eqb (get_or c.args.other.now x 0) none in
-    let low : Unless c.args.rounds (λ x. x) c.first_common_free.result (lowest both c.args.rounds) = rw c.first_common_free.ensures (found_lowest both c.args.rounds) in
+    let both : ℕ × ℕ → Bool = λ e. eqb e.0 none && eqb e.1 none in
+    let low : Unless c.args.rounds (λ x. x) c.first_common_free.result (lowest (λ x. both (get_or c.args.one.now x 0, get_or c.args.other.now x 0)) c.args.rounds) = rw c.first_common_free.ensures (found_lowest both c.args.one.now c.args.other.now c.args.rounds c.requires.one c.requires.other) in
     search rules

@@ -1,12 +1,12 @@
 -- Into the common free round that was found; where there is none, by the chain of the two rounds that were found.
-use Rattle.std.proofs.Common.{◌<◌, ◌≤◌, refl, ap, ◌∙◌, arith}
+use Rattle.std.proofs.Common.{◌<◌, ◌≤◌, ap, ◌∙◌, arith}
 use Rattle.meetings.specs.declared.numbers.Side.TheVariants.{Groups, Stations}
 use Rattle.chains.specs.Boards.{meetings_on, rounds_on}
 use Rattle.chains.proofs.BoardKept.{becomes_also}
 use Rattle.chains.proofs.Unless.{some_is, there_is}
 use Rattle.placing.specs.Putting.{Placed, common_free}
 use Rattle.placing.proofs.AllTurns.{finds_same}
-use Rattle.placing.proofs.ByChain.{common_below, common_vacant, chain_found_opens, put_common_is, put_in_on, put_by_chain_is}
+use Rattle.placing.proofs.ByChain.{common_below, common_vacant, opens_on, own_there, put_common_is, put_in_on, put_by_chain_is}
 use Rattle.placing.proofs.put.put_in.Goals as goal
 
 pub place-requires : goal.place-requires
@@ -37,34 +37,16 @@ returns-in-Some-clause-rule c =
     }
 
 pub unwrap-a-requires : goal.unwrap-a-requires
-unwrap-a-requires c =
-    let d = c.args.board.now in
-    let found = chain_found_opens _ _ c.args.rounds (meetings_on d) (rounds_on d) c.args.meeting.0 c.requires.ready _ _ (omega (arith, c.in_default.ensures)) refl refl in
-    there_is _ _ _ _ c.own_free.ensures (λ out. omega (arith, found.0))
+unwrap-a-requires c = there_is _ _ _ _ c.own_free.ensures (own_there _ _ _ _ c.requires c.in_default.ensures Groups)
 
 pub unwrap-b-requires : goal.unwrap-b-requires
-unwrap-b-requires c =
-    let d = c.args.board.now in
-    let found = chain_found_opens _ _ c.args.rounds (meetings_on d) (rounds_on d) c.args.meeting.0 c.requires.ready _ _ (omega (arith, c.in_default.ensures)) refl refl in
-    there_is _ _ _ _ c.own_free-2.ensures (λ out. omega (arith, found.1))
+unwrap-b-requires c = there_is _ _ _ _ c.own_free-2.ensures (own_there _ _ _ _ c.requires c.in_default.ensures Stations)
 
 pub put_by_chain-requires : goal.put_by_chain-requires
 put_by_chain-requires c =
-    let d = c.args.board.now in
-    let r = c.args.rounds in
-    let i = c.args.meeting.0 in
     let a = (some_is _ _ _ _ _ c.own_free.ensures c.unwrap-a.ensures).0 in
     let b = (some_is _ _ _ _ _ c.own_free-2.ensures c.unwrap-b.ensures).0 in
-    let none_common : r ≤ common_free r (meetings_on d) (rounds_on d) i = omega (arith, c.in_default.ensures) in
-    let found = chain_found_opens _ _ r (meetings_on d) (rounds_on d) i c.requires.ready _ _ none_common a b in
-    record {
-      one = (omega (arith, found.0, c.requires.within.0), omega (arith, found.0, c.requires.within.1));
-      other = (omega (arith, found.1, c.requires.within.0), omega (arith, found.1, c.requires.within.1));
-      here = c.requires.ready.here;
-      out = c.requires.ready.out;
-      opens = found.2;
-      unused = c.requires.unused;
-    }
+    opens_on _ _ _ _ c.requires c.in_default.ensures _ _ a b
 
 pub returns-clause-rule : goal.returns-clause-rule
 returns-clause-rule c =
