@@ -25,7 +25,7 @@ impl Rounds<'_> {
                 || self.meetings[one].station == self.meetings[other].station)
     }
 
-    // A meeting has one of so many rounds, and clashes with no earlier one. By number, since a pair of meetings is two numbers.
+    // A meeting has one of so many rounds, and clashes with no earlier one. By number: a pair of meetings is two numbers.
     fn fits(&self, many: u16, one: usize) -> bool
         requires one { one < length self.now.meetings.now }
         ensures { IsTrue result ↔ Fits many self.now.meetings.now self.now.rounds.now one }
