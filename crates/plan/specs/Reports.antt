@@ -16,7 +16,7 @@ abbrev pub telling : ℕ → ℕ → List ℕ → Told
 telling rounds looks xs = record { rounds = rounds; looks = looks; of_meetings = xs }
 
 abbrev pub told : Report → Told
-told r = telling r.rounds r.looks (vec_items r.of_meetings)
+told r = telling r.planned.rounds r.planned.looks (vec_items r.of_meetings)
 
 -- what is told of a list: the fewest rounds, and the rule's plan with so many
 abbrev pub told_of : Contents → Told

@@ -13,6 +13,7 @@ use placing::{Planned, place_all};
 use std::alloc::Global;
 
 // Places all meetings in slices that are lent just as long as the number of rounds asks for, so that none of them is refused.
+// A function of its own: that only memory can be wanting is proved of this call by itself.
 fn place_exactly(
     heap: Global,
     list: &MeetingList,
@@ -44,8 +45,7 @@ fn report_on(heap: Global, list: &MeetingList) -> Result<Report, Refusal>
         &mut station_rows,
     )?;
     Ok(Report {
-        rounds: planned.rounds,
-        looks: planned.looks,
+        planned,
         of_meetings,
     })
 }

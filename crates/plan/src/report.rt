@@ -5,17 +5,18 @@ ghost use Rattle.meetings.specs.Refusals.{IfMemory};
 
 use chains::NONE;
 use meetings::Refusal;
+use placing::Planned;
 use std::alloc::Global;
 
-// The number of rounds, the looks that it took, and the round of each meeting.
+// What planning answers, and the round of each meeting.
 #[derive(Drop)]
 pub(crate) struct Report {
-    pub(crate) rounds: u16,
-    pub(crate) looks: u64,
+    pub(crate) planned: Planned,
     pub(crate) of_meetings: Vec<u16>,
 }
 
-// So many entries without a round or a meeting. A function of its own, since what they hold shows in no report.
+// So many entries without a round or a meeting. A `vec!` in place is not enough: the report's contract does not say what the
+// slices held before planning, so a wrong filling would not be refused.
 pub(crate) fn nothing(heap: Global, many: usize) -> Result<Vec<u16>, Refusal>
     ensures { IfMemory result (λ v. v.items ≡ replicate many none) }
 {

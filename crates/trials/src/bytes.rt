@@ -3,7 +3,7 @@ use meetings::{Group, Meeting, Refusal, Station, read, write};
 use std::alloc::{AllocError, Global};
 use std::test::Fail;
 
-// The number and the place of a refusal, or None where the bytes are accepted.
+// A refusal by its number and place, as the rule's table has them, or None where the bytes are accepted.
 fn told(heap: Global, bytes: &[u8]) -> Option<(u8, usize)> {
     let refusal = read(heap, bytes).err()?;
     Some((refusal.number(), refusal.place()))

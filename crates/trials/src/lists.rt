@@ -18,8 +18,8 @@ pub fn bytes_of(
     let [low, high, ..] = meetings.len().to_le_bytes();
     let mut bytes = Vec::new(heap);
     bytes.extend_from_slice(&[groups, stations, rooms, low, high])?;
-    for meeting in meetings {
-        bytes.extend_from_slice(&[meeting.0, meeting.1])?;
+    for (group, station) in meetings {
+        bytes.extend_from_slice(&[*group, *station])?;
     }
     Ok(bytes)
 }

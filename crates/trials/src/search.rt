@@ -16,12 +16,13 @@ impl Plan {
 
     // Whether a meeting fits in with the earlier ones: nobody twice in its round, and a room for it.
     fn fits(self, earlier: &[(u8, u8)], meeting: (u8, u8), rooms: u8) -> bool {
+        let (group, station) = meeting;
         let round = self.round_of(earlier.len());
         let beside = (0..earlier.len())
             .filter(|at| self.round_of(*at) == round)
             .count();
-        let clashes = earlier.iter().enumerate().any(|(at, other)| {
-            self.round_of(at) == round && (other.0 == meeting.0 || other.1 == meeting.1)
+        let clashes = earlier.iter().enumerate().any(|(at, (its_group, its_station))| {
+            self.round_of(at) == round && (*its_group == group || *its_station == station)
         });
         beside < usize::from(rooms) && !clashes
     }

@@ -3,6 +3,7 @@ use crate::lent::{Lengths, Slices};
 use crate::plans::is_plan;
 use crate::rule::{PartialPlan, number_of_rounds};
 use meetings::{MeetingList, Refusal, read};
+use placing::Planned;
 use std::alloc::Global;
 use std::process::Abort;
 use std::test::Fail;
@@ -31,8 +32,13 @@ pub(crate) fn check_placed(
     let right = PartialPlan::of(heap, meetings, many)?;
     let mut lent = Slices::new(heap, lengths)?;
     let planned = lent.place(heap, list)?;
-    assert_eq!(rt; planned.rounds, many);
-    assert_eq!(rt; planned.looks, right.looks);
+    assert_eq!(rt;
+        planned,
+        Planned {
+            rounds: many,
+            looks: right.looks
+        }
+    );
     // `as` below, since a `usize` has no `From` to a `u64`
     let parties = u64::from(list.groups()).saturating_add(u64::from(list.stations()));
     assert!(rt; planned.looks <= (meetings.len() as u64).saturating_mul(parties.saturating_add(1)));

@@ -2,6 +2,7 @@
 use crate::checks::list_of;
 use crate::lent::{Lengths, Slices};
 use meetings::Meeting;
+use placing::Planned;
 use std::alloc::{AllocError, Global};
 use std::collections::HashSet;
 use std::test::Fail;
@@ -15,21 +16,29 @@ fn meetings_of_one_pair(rt: HostRuntime) -> Result<(), Fail> {
     let list = list_of(heap, 1, 1, 120, &meetings)?;
     let mut lent = Slices::new(heap, Lengths::new(4000, 4000, 4000))?;
     let planned = lent.place(heap, &list)?;
-    assert_eq!(rt; (planned.rounds, planned.looks), (4000, 4000));
+    assert_eq!(rt;
+        planned,
+        Planned {
+            rounds: 4000,
+            looks: 4000
+        }
+    );
     assert_eq!(rt; lent.rounds.as_slice(), numbers.as_slice());
     assert_eq!(rt; lent.group_rows.as_slice(), numbers.as_slice());
     assert_eq!(rt; lent.station_rows.as_slice(), numbers.as_slice());
     Ok(())
 }
 
-// Whether each meeting has one of 34 rounds, and nobody two in one.
+// Whether each meeting of 120 groups and stations has one of 34 rounds, and nobody two in one.
 fn fills_a_day(heap: Global, meetings: &[Meeting], rounds: &[u16]) -> Result<bool, AllocError> {
     let mut groups = HashSet::new(heap);
     let mut stations = HashSet::new(heap);
     for (meeting, round) in meetings.iter().zip(rounds) {
-        let group_is_free = groups.insert((meeting.group.0, *round))?;
-        let station_is_free = stations.insert((meeting.station.0, *round))?;
-        if *round >= 34 || !group_is_free || !station_is_free {
+        let (group, station) = (meeting.group.0, meeting.station.0);
+        let is_within = group < 120 && station < 120 && *round < 34;
+        let is_group_free = groups.insert((group, *round))?;
+        let is_station_free = stations.insert((station, *round))?;
+        if !is_within || !is_group_free || !is_station_free {
             return Ok(false);
         }
     }

@@ -9,8 +9,9 @@ use std::test::Fail;
 
 // Whether an earlier meeting in the round has the group or the station.
 fn is_taken(meetings: &[(u8, u8)], rounds: &[u16], meeting: (u8, u8), round: u16) -> bool {
-    meetings.iter().zip(rounds).any(|(other, at)| *at == round
-        && (other.0 == meeting.0 || other.1 == meeting.1))
+    let (group, station) = meeting;
+    meetings.iter().zip(rounds).any(|((its_group, its_station), at)| *at == round
+        && (*its_group == group || *its_station == station))
 }
 
 // How many rounds it takes if each meeting gets the first common free round, else a new one.

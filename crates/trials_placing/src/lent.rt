@@ -1,10 +1,11 @@
 // The three slices that are lent, and what they hold before and after.
 use crate::rule::PartialPlan;
-use meetings::{MeetingList, Refusal, Round, Side};
+use meetings::{MeetingId, MeetingList, Refusal, Round, Side};
 use placing::{Planned, place_all};
 use std::alloc::{AllocError, Global};
 
-// What a row holds for a round without a meeting: a lent slice is of u16.
+// What stands for a meeting without a round, and in a row for a round without a meeting: a lent slice is of u16. It is said
+// once more here, since the tests take nothing of the library's numbers.
 const NONE: u16 = 65535;
 
 // How long the slices are.
@@ -16,6 +17,7 @@ pub(crate) struct Lengths {
 }
 
 impl Lengths {
+    // For tables, which are read by columns: rounds, rows of groups, rows of stations.
     pub(crate) fn new(rounds: usize, group_rows: usize, station_rows: usize) -> Lengths {
         Lengths {
             rounds,
@@ -37,6 +39,15 @@ fn stale(heap: Global, length: usize) -> Result<Vec<u16>, AllocError> {
     (60000..61000u16).cycle().take(length).collect(heap)
 }
 
+// The round of each meeting, in its place. `u16::MAX` cuts none off: a list has 4,000 meetings at most.
+fn rounds(heap: Global, plan: &PartialPlan, meetings: usize) -> Result<Vec<u16>, AllocError> {
+    (0..u16::MAX)
+        .take(meetings)
+        .map(|number| plan.round_of(MeetingId(number)))
+        .map(|round| round.map_or(NONE, |round| round.0))
+        .collect(heap)
+}
+
 // The entries that are written, and behind them those that were there before.
 fn over(heap: Global, written: &[u16], before: &[u16]) -> Result<Vec<u16>, AllocError> {
     let behind = before.iter().skip(written.len());
@@ -51,6 +62,7 @@ fn rows(
     parties: u16,
     length: usize,
 ) -> Result<Vec<u16>, AllocError> {
+    // a row has an entry for each round that there can be, 65,535, and no more
     let width = u16::try_from(length / usize::from(parties.max(1))).unwrap_or(u16::MAX);
     (0..parties)
         .flat_map(|party| (0..width).map(move |round| plan.met(side, party, Round(round))))
@@ -76,7 +88,7 @@ impl Slices {
         plan: &PartialPlan,
     ) -> Result<Slices, AllocError> {
         let before = Slices::new(heap, lengths)?;
-        let rounds = plan.rounds(heap)?;
+        let rounds = rounds(heap, plan, list.meetings().len())?;
         let (groups, stations) = (list.groups(), list.stations());
         let group_rows = rows(heap, plan, Side::Groups, groups, lengths.group_rows)?;
         let station_rows = rows(heap, plan, Side::Stations, stations, lengths.station_rows)?;

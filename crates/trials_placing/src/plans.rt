@@ -5,7 +5,7 @@ ghost use Rattle.trials_placing.specs.Clashes.{Clash, Fits};
 
 use meetings::Meeting;
 
-// Meetings, and a round for each of them.
+// Meetings, and a round for each of them: two slices beside one another, as they are lent and as `is_plan` takes them.
 #[derive(Clone, Copy)]
 struct Rounds<'a> {
     meetings: &'a [Meeting],
@@ -25,7 +25,7 @@ impl Rounds<'_> {
                 || self.meetings[one].station == self.meetings[other].station)
     }
 
-    // A meeting has one of so many rounds, and clashes with no earlier one.
+    // A meeting has one of so many rounds, and clashes with no earlier one. By number: a pair of meetings is two numbers.
     fn fits(&self, many: u16, one: usize) -> bool
         requires one { one < length self.now.meetings.now }
         ensures { IsTrue result ↔ Fits many self.now.meetings.now self.now.rounds.now one }
@@ -33,7 +33,7 @@ impl Rounds<'_> {
         self.rounds[one] < many && !(0..one).any(|other| self.clash(one, other))
     }
 
-    // Each meeting fits in with the earlier ones.
+    // Each meeting fits in with the earlier ones. By number, as `fits` takes it.
     fn all_fit(&self, many: u16) -> bool
         ensures { IsTrue result ↔ ((i : ℕ) → i < length self.now.meetings.now → Fits many self.now.meetings.now self.now.rounds.now i) }
     {

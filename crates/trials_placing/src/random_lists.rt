@@ -8,8 +8,15 @@ use trials::Random;
 
 // Whether the group and the station of a meeting have both fewer meetings than the most.
 fn has_place(meetings: &[(u8, u8)], meeting: (u8, u8), most: u8) -> bool {
-    let of_group = meetings.iter().filter(|other| other.0 == meeting.0).count();
-    let of_station = meetings.iter().filter(|other| other.1 == meeting.1).count();
+    let (group, station) = meeting;
+    let of_group = meetings
+        .iter()
+        .filter(|(its_group, _)| *its_group == group)
+        .count();
+    let of_station = meetings
+        .iter()
+        .filter(|(_, its_station)| *its_station == station)
+        .count();
     of_group < usize::from(most) && of_station < usize::from(most)
 }
 

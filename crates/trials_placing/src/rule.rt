@@ -11,7 +11,8 @@ fn held(meetings: &[Meeting], side: Side, one: Meeting) -> usize {
         .count()
 }
 
-// The lowest number of rounds that has a place for each of so many meetings. It is searched, since the library divides.
+// The lowest number of rounds that has a place for each of so many meetings. It is searched, since the library divides. With
+// a room there always is one: a list has 4,000 meetings at most.
 fn for_rooms(meetings: usize, rooms: u16) -> u16 {
     (0..u16::MAX)
         .find(|rounds| usize::from(*rounds).saturating_mul(usize::from(rooms)) >= meetings)
@@ -52,6 +53,7 @@ impl PartialPlan {
             placed: Vec::new(heap),
             looks: 0,
         };
+        // `u16::MAX` cuts none off: a list has 4,000 meetings at most
         for (number, meeting) in (0..u16::MAX).zip(meetings) {
             if let Some(round) = plan.round_for(heap, *meeting)? {
                 plan.placed.push(Placed {
@@ -64,12 +66,12 @@ impl PartialPlan {
         Ok(plan)
     }
 
-    // The rounds of the meetings that were put in.
-    pub(crate) fn rounds(&self, heap: Global) -> Result<Vec<u16>, AllocError> {
+    // The round of a meeting. None where it was not put in.
+    pub(crate) fn round_of(&self, number: MeetingId) -> Option<Round> {
         self.placed
             .iter()
-            .map(|placed| placed.round.0)
-            .collect(heap)
+            .find(|placed| placed.number == number)
+            .map(|placed| placed.round)
     }
 
     // The meeting that a party has in a round.

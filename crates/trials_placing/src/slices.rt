@@ -2,7 +2,7 @@
 use crate::checks::{check_placed, list_of};
 use crate::lent::{Lengths, Slices};
 use meetings::{Lent, MeetingList, Refusal};
-use placing::place_all;
+use placing::{Planned, place_all};
 use std::alloc::Global;
 use std::process::Abort;
 use std::test::Fail;
@@ -61,7 +61,13 @@ fn no_meetings_take_no_rounds(rt: HostRuntime) -> Result<(), Fail> {
     let heap = rt.alloc();
     let list = list_of(heap, 3, 2, 2, &[])?;
     let planned = place_all(heap, &list, &mut [], &mut [], &mut [])?;
-    assert_eq!(rt; (planned.rounds, planned.looks), (0, 0));
+    assert_eq!(rt;
+        planned,
+        Planned {
+            rounds: 0,
+            looks: 0
+        }
+    );
     // rows that are lent all the same are emptied
     assert_eq!(rt; check_placed(&rt, heap, &list, Lengths::new(2, 7, 5))?, 0);
     Ok(())

@@ -3,6 +3,7 @@ use crate::checks::list_of;
 use crate::lent::{Lengths, Slices};
 use crate::plans::is_plan;
 use meetings::MeetingList;
+use placing::Planned;
 use std::alloc::Global;
 use std::process::Abort;
 use std::test::Fail;
@@ -47,9 +48,14 @@ fn check_rounds(
 ) -> Result<(), Fail> {
     let mut lent = Slices::new(heap, just_enough(list, many))?;
     let planned = lent.place(heap, list)?;
-    assert_eq!(rt; planned.rounds, many);
+    assert_eq!(rt;
+        planned,
+        Planned {
+            rounds: many,
+            looks
+        }
+    );
     assert_eq!(rt; lent.rounds.as_slice(), rounds);
-    assert_eq!(rt; planned.looks, looks);
     assert!(rt; is_plan(list.meetings(), &lent.rounds, many));
     Ok(())
 }
