@@ -1,7 +1,7 @@
 -- The marks are those of the list of what was found, at the start, with one more, and after all are cleared. Assumes nothing.
-use Rattle.std.proofs.Common.{◌≡◌, ℕ, ◌+◌, ◌<◌, ◌≤◌, Bool, true, false, eqb, List, [], ◌∷◌, ◌++◌, length, get_or, set, replicate, sym, ap, ◌∙◌, ⊎_elim, arith}
+use Rattle.std.proofs.Common.{◌≡◌, ℕ, ◌<◌, ◌≤◌, Bool, true, false, eqb, List, [], ◌∷◌, ◌++◌, length, get_or, set, replicate, sym, ap, ◌∙◌, ⊎_elim, arith}
 use Rattle.std.proofs.lemmas.List.{get_or-replicate, length-replicate, get_or-set_same, get_or-set_other, length-set, length-append, get_or_default, same_lists}
-use Rattle.std.proofs.lemmas.Bool.{cases_eq, both_ways, eq-eqb, ne_eqb, cond-true, cond-false}
+use Rattle.std.proofs.lemmas.Bool.{cases_eq, eq-eqb, ne_eqb, cond-true, cond-false}
 use Rattle.fewest.proofs.Counting.{count_all}
 use Rattle.fewest.specs.Plans.{none}
 use Rattle.chains.specs.Chains.{holds, left_of, nothing, with_one}
@@ -54,16 +54,6 @@ MarkedFrom marks is t = (i : ℕ) → i < length marks → get_or marks i false 
 
 pub clearing_starts : (marks : List Bool) (is : List ℕ) → ((i : ℕ) → i < length marks → get_or marks i false ≡ holds is i) → MarkedFrom marks is 0
 clearing_starts marks is held i h is_set = let at = place_of is i (sym (held i h) ∙ is_set) in (at.0, omega arith, at.1, at.2)
-
-pub clearing_more : (marks : List Bool) (is : List ℕ) (t : ℕ) → get_or is t 0 < length marks → t < length is → MarkedFrom marks is t → MarkedFrom (set marks (get_or is t 0) false) is (t + 1)
-clearing_more marks is t within here from i h is_set =
-    let cleared = get_or-set_same marks (get_or is t 0) false false within in
-    ⊎_elim
-    (λ same. absurd (both_ways (get_or (set marks (get_or is t 0) false) i false) (rw same cleared) is_set))
-    (λ other.
-    let at = from i (omega (arith, length-set marks (get_or is t 0) false)) (sym (get_or-set_other marks (get_or is t 0) i false false other) ∙ is_set) in
-    (at.0, ⊎_elim (λ e. absurd (other (sym at.3 ∙ ap (λ q. get_or is q none) e ∙ get_or_default is t none 0 here))) (λ e. omega (arith, at.1)) (cases_eq at.0 t), at.2, at.3))
-    (cases_eq i (get_or is t 0))
 
 pub clearing_ends : (marks : List Bool) (is : List ℕ) (m t : ℕ) → length is ≤ t → length marks ≡ m → MarkedFrom marks is t → marks ≡ replicate m false
 clearing_ends marks is m t past long from = same_lists marks (replicate m false) (long ∙ sym (length-replicate m false)) (λ i d h. get_or_default marks i d false h ∙ unless (get_or marks i false) (λ is_set. let at = from i h is_set in omega (arith, at.1, at.2)) ∙ sym (get_or-replicate m i false d (omega arith)))

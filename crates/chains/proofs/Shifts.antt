@@ -1,7 +1,7 @@
 -- Giving the members in one round another, one after the other: at each turn the next may have it. Assumes nothing.
-use Rattle.std.proofs.Common.{◌≡◌, ℕ, ◌+◌, ◌<◌, ◌≤◌, Bool, true, false, cond, ◌&&◌, eqb, ◌⊎◌, List, [], ◌∷◌, ◌++◌, length, get_or, take, set, sym, refl, ap, ◌∙◌, inl, inr, ⊎_elim, arith}
+use Rattle.std.proofs.Common.{◌≡◌, ℕ, ◌+◌, ◌<◌, Bool, true, false, cond, ◌&&◌, eqb, ◌⊎◌, List, [], ◌∷◌, ◌++◌, length, get_or, take, set, sym, refl, ap, ◌∙◌, inl, inr, ⊎_elim, arith}
 use Rattle.std.proofs.lemmas.List.FromFn.{length-map-range_with_len, get_or-map-range_with_len, fill_by_all}
-use Rattle.std.proofs.lemmas.List.{get_or-set_same, get_or-set_other, length-set, take_all, take_more}
+use Rattle.std.proofs.lemmas.List.{get_or-set_same, get_or-set_other, length-set, take_more}
 use Rattle.std.proofs.lemmas.Bool.{cases_eq}
 use Rattle.std.proofs.lemmas.Bool.Decides.{nat_tests}
 use Rattle.meetings.specs.declared.numbers.Meeting.{Meeting}
@@ -32,12 +32,9 @@ module _ (u v : ℕ) (is xs : List ℕ) where
 shifted_is : (u v : ℕ) (is xs ys : List ℕ) → length ys ≡ length xs → ((i : ℕ) → i < length xs → round_of ys i ≡ given u v (holds is i) (round_of xs i)) → ys ≡ shifted u v is xs
 shifted_is u v is xs ys long each = fill_by_all (λ i. given u v (holds is i) (round_of xs i)) ys (length xs) none long each
 
--- before the first turn and after the last
+-- before the first turn
 pub shifted_start : (u v : ℕ) (is xs : List ℕ) → xs ≡ shifted u v (take 0 is) xs
 shifted_start u v is xs = shifted_is u v (take 0 is) xs xs refl (λ i h. refl)
-
-pub shifted_all : (u v t : ℕ) (is xs : List ℕ) → length is ≤ t → shifted u v (take t is) xs ≡ shifted u v is xs
-shifted_all u v t is xs h = ap (λ l. shifted u v l xs) (take_all t is h)
 
 -- one turn, for one meeting j, where i is the member: o is its round before the turn, c that before the first
 turn : (u v j i c o : ℕ) (h : Bool) → o ≡ given u v h c → cond (eqb j i && eqb o u) v o ≡ given u v (cond (eqb j i) true h) c

@@ -12,9 +12,9 @@ use meetings::{MeetingList, Refusal};
 use std::alloc::Global;
 
 // Places all meetings of a list in the fewest rounds; rooms are not asked. Three slices are lent, since no memory is taken for a
-// plan: the rounds of the meetings, a row of rounds
-// for each group, and one for each station. A slice that is too short is refused, and memory may be wanting; nothing lent has
-// changed then. Else the lent rounds hold a plan, and no plan within the rooms has fewer rounds.
+// plan: the rounds of the meetings, a row of rounds for each group, and one for each station. A slice that is too short is
+// refused, and memory may be wanting; nothing lent has changed then. Else the lent rounds hold a plan, and no plan within the
+// rooms has fewer rounds.
 pub fn place_all(
     heap: Global,
     list: &MeetingList,
