@@ -34,6 +34,7 @@ impl Board<'_> {
     }
 
     // Finds a meeting and the chain that is followed from it through its group.
+    #[tactic(auto, using(crate::proofs::ChainTurns::chain_found))]
     pub fn find_chain(&self, rounds: TwoRounds, meeting: MeetingId, found: &mut Found)
         requires in_two { InTwo self.now rounds meeting.0 }
         requires all { among_all found.old ≡ length (meetings_on self.now) }
@@ -45,6 +46,7 @@ impl Board<'_> {
     }
 
     // Finds the part of a meeting: its chain, and what is followed from it through its station.
+    #[tactic(auto, using(crate::proofs::ChainTurns::part_found))]
     pub fn find_part(&self, rounds: TwoRounds, meeting: MeetingId, found: &mut Found)
         requires in_two { InTwo self.now rounds meeting.0 }
         requires all { among_all found.old ≡ length (meetings_on self.now) }
