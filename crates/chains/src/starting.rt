@@ -19,6 +19,7 @@ fn clear_rows(rows: &mut [u16], parties: u16, width: u16)
 
 impl Board<'_> {
     // Empties the board: no meeting has a round.
+    #[tactic(auto, using(crate::proofs::EmptyBoard::sized_as_held))]
     pub fn empty(&mut self)
         ensures { Becomes self.old self.new (replicate (length (meetings_on self.old)) none) }
     {
