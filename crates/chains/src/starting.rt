@@ -30,7 +30,7 @@ impl Board<'_> {
     }
 }
 
-// Empties three slices, whatever they held: they are a board then on which no meeting has a round.
+// Empties three slices, as they are lent and whatever they held: they are a board then on which no meeting has a round.
 pub fn empty(shape: Shape, rounds: &mut [u16], group_rows: &mut [u16], station_rows: &mut [u16])
     requires group_room { shape.groups * shape.group_width ≤ length group_rows.old }
     requires station_room { shape.stations * shape.station_width ≤ length station_rows.old }

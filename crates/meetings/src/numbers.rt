@@ -1,4 +1,4 @@
-// What is numbered, each number a type of its own, and a meeting.
+// What is numbered, and a meeting. Each number is a type of its own, written out, so that none is taken for another.
 ghost use Rattle.std.specs.Prelude.{◌≡◌};
 ghost use Rattle.meetings.specs.Lists.{other_side, party};
 
