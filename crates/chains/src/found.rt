@@ -8,7 +8,7 @@ use meetings::{MeetingId, Refusal};
 use std::alloc::Global;
 
 // A list of meetings in the order in which they were found, and a mark for each, so that none is looked for in the list, and
-// adding one needs no memory.
+// adding one needs no memory. The list has plain numbers, as the rule has them: of `MeetingId` each clause would be about a `map`.
 #[derive(Drop)]
 pub struct Found {
     marks: Vec<bool>,
@@ -16,7 +16,7 @@ pub struct Found {
     ghost marked: { Marked marks.items list.items (vec_capacity list) },
 }
 
-// Sets a mark or clears it.
+// Sets a mark or clears it. Not one generic function with the writing of an entry: that would be `slice[i] = x` itself.
 fn mark(marks: &mut [bool], meeting: MeetingId, set_to: bool)
     requires within { meeting.0 < length marks.old }
     ensures { marks.new ≡ slice_set marks.old meeting.0 set_to }
@@ -51,7 +51,7 @@ impl Found {
         self.list.as_slice()
     }
 
-    // One more is found.
+    // One more is found; that it was not found yet is a fact of two values, and its caller has asked.
     pub fn add(&mut self, meeting: MeetingId)
         requires within { meeting.0 < among_all self.old }
         requires new { holds (found_in self.old) meeting.0 ≡ false }

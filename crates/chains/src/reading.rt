@@ -65,10 +65,12 @@ impl Board<'_> {
     }
 }
 
-// The row of a party in the rows of its side.
+// The row of a party in the rows of its side. Rows and width are not one value: a row is a part of one lent slice, and a struct
+// of the two would be made anew at each call.
 pub fn row_in(rows: &[u16], width: u16, party: u16) -> &[u16]
     requires room { party * width + width ≤ length rows.now }
-    ensures { result.now ≡ take width (drop (party * width) rows.now) }
+    ensures held { result.now ≡ take width (drop (party * width) rows.now) }
+    ensures long { length result.now ≡ width }
 {
     let start = usize::from(party) * usize::from(width);
     &rows[start..start + usize::from(width)]

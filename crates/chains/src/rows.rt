@@ -9,7 +9,7 @@ fn write_in_row(row: &mut [u16], round: u16, entry: u16)
     row[usize::from(round)] = entry;
 }
 
-// Lends a party's row on, to have one entry of it written.
+// Lends a party's row on, to have one entry of it written. Rows and width come apart, as where a row is read.
 pub(crate) fn write_entry(rows: &mut [u16], width: u16, party: u16, round: u16, entry: u16)
     requires room { party * width + width ≤ length rows.old }
     requires within { round < width }

@@ -9,9 +9,9 @@ use crate::tally::Tally;
 use meetings::{MeetingList, Refusal};
 use std::alloc::Global;
 
-// The fewest rounds in which all meetings can be held: the larger of what the busiest group or station has, and of what the rooms
-// ask for. It is the least number that suffices for the busiest and for the
-// rooms, and no plan within the rooms has fewer. Only memory can be wanting.
+// The fewest rounds in which all meetings can be held: the larger of what the busiest group or station has, and of what the
+// rooms ask for. It is the least number that suffices for the busiest and for the rooms, and no plan within the rooms has
+// fewer. Only memory can be wanting.
 #[tactic(auto, using(crate::proofs::NoFewer::rounded_up, crate::proofs::NoFewer::least_said))]
 pub fn fewest_rounds(heap: Global, list: &MeetingList) -> Result<u16, Refusal>
     ensures answer { IfMemory result (λ x. x ≡ fewest (contents list.now)) }

@@ -27,7 +27,7 @@ fn count_meetings(meetings: &[Meeting], groups: &mut [u16], stations: &mut [u16]
     ensures stations { Tallied Stations meetings.now stations.new }
 {
     for meeting in meetings {
-        // `as`, since after a `From` the range of an index has to be proved once more.
+        // `as`, since after a `From` it is not proved that the index is within the range
         groups[meeting.group.0 as usize] += 1;
         stations[meeting.station.0 as usize] += 1;
     }

@@ -13,7 +13,8 @@ use crate::put::put_in;
 use chains::{Board, Found, Shape, empty};
 use meetings::{Meeting, MeetingId};
 
-// Puts in one meeting after the other, none of which has a round yet.
+// Puts in one meeting after the other, none of which has a round yet. What is asked of rounds, board and what was found is asked
+// clause by clause here and below, since each is a fact of two of them.
 fn put_each(board: &mut Board<'_>, rounds: u16, found: &mut Found) -> u64
     requires out { rounds_on board.old ≡ replicate (length (meetings_on board.old)) none }
     requires within { ManyWithin board.old.shape rounds }
@@ -42,7 +43,8 @@ pub fn put_in_all(board: &mut Board<'_>, rounds: u16, found: &mut Found) -> u64
     put_each(board, rounds, found)
 }
 
-// Puts in all meetings on a board over the lent slices, which are emptied first.
+// Puts in all meetings on a board over the lent slices, which are emptied first. It does not call `put_in_all`, which would empty
+// them once more.
 pub(crate) fn put_in_lent(
     meetings: &[Meeting],
     shape: Shape,

@@ -15,8 +15,8 @@ pub(crate) struct Report {
     pub(crate) of_meetings: Vec<u16>,
 }
 
-// So many entries without a round or a meeting. A `vec!` in place is not enough: the report's contract does not say what the
-// slices held before planning, so a wrong filling would not be refused.
+// So many entries without a round or a meeting: they are lent, so none is a number. A `vec!` in place is not enough: the
+// report's contract does not say what the slices held before planning, so a wrong filling would not be refused.
 pub(crate) fn nothing(heap: Global, many: usize) -> Result<Vec<u16>, Refusal>
     ensures { IfMemory result (λ v. v.items ≡ replicate many none) }
 {

@@ -7,23 +7,33 @@ use fewest::fewest_rounds;
 use std::alloc::{AllocError, Global};
 use std::test::Fail;
 
+// A pair that was put in, and its round.
+#[derive(Clone, Copy)]
+struct Put {
+    group: u8,
+    station: u8,
+    round: u16,
+}
+
 // Whether an earlier meeting in the round has the group or the station.
-fn is_taken(meetings: &[(u8, u8)], rounds: &[u16], meeting: (u8, u8), round: u16) -> bool {
-    let (group, station) = meeting;
-    meetings.iter().zip(rounds).any(|((its_group, its_station), at)| *at == round
-        && (*its_group == group || *its_station == station))
+fn is_taken(earlier: &[Put], group: u8, station: u8, round: u16) -> bool {
+    earlier.iter().any(|put| put.round == round && (put.group == group || put.station == station))
 }
 
 // How many rounds it takes if each meeting gets the first common free round, else a new one.
 fn first_fit(heap: Global, meetings: &[(u8, u8)]) -> Result<u16, AllocError> {
-    let mut rounds = Vec::new(heap);
+    let mut earlier = Vec::new(heap);
     let mut many = 0u16;
-    for meeting in meetings {
-        let first = (0..many)
-            .find(|round| !is_taken(meetings, &rounds, *meeting, *round))
+    for (group, station) in meetings.iter().copied() {
+        let round = (0..many)
+            .find(|round| !is_taken(&earlier, group, station, *round))
             .unwrap_or(many);
-        rounds.push(first)?;
-        many = many.max(first.saturating_add(1));
+        earlier.push(Put {
+            group,
+            station,
+            round,
+        })?;
+        many = many.max(round.saturating_add(1));
     }
     Ok(many)
 }

@@ -5,7 +5,7 @@ use placing::{Planned, place_all};
 use std::alloc::{AllocError, Global};
 
 // What stands for a meeting without a round, and in a row for a round without a meeting: a lent slice is of u16. It is said
-// once more here, since the tests take nothing of the library's numbers.
+// once more here: what the tests expect does not lean on what the library calls none.
 const NONE: u16 = 65535;
 
 // How long the slices are.

@@ -98,9 +98,9 @@ impl PartialPlan {
         let mut members = Vec::new(heap);
         let mut next = self.met(Side::Stations, station.0, a);
         let turns = [(Side::Groups, b), (Side::Stations, a)];
-        for (side, round) in turns.iter().copied().cycle().take(self.placed.len()) {
+        'chain: for (side, round) in turns.iter().copied().cycle().take(self.placed.len()) {
             let Some(member) = next else {
-                break;
+                break 'chain;
             };
             members.push(member.number)?;
             next = self.met(side, member.meeting.party(side), round);
