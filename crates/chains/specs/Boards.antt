@@ -1,5 +1,5 @@
 -- The board, and what a change leaves on it. Assumes nothing.
-use Rattle.std.specs.Prelude.{◌≡◌, ℕ, ◌+◌, ◌*◌, ◌<◌, true, List, length}
+use Rattle.std.specs.Prelude.{◌≡◌, ℕ, ◌+◌, ◌*◌, ◌<◌, true, List, length, slice_set}
 use Rattle.meetings.specs.declared.numbers.Meeting.{Meeting}
 use Rattle.meetings.specs.declared.numbers.Side.{Side}
 use Rattle.meetings.specs.declared.numbers.Side.TheVariants.{Groups, Stations}
@@ -7,7 +7,7 @@ use Rattle.chains.specs.declared.board.Board.{Board}
 use Rattle.chains.specs.declared.neighbours.TwoRounds.{TwoRounds}
 use Rattle.chains.specs.Chains.{Two, two, in_two}
 use Rattle.chains.specs.Partial.{party_of}
-use Rattle.chains.specs.Rows.{WithinRows, Beyond, width_of}
+use Rattle.chains.specs.Rows.{WithinRows, Holds, Beyond, width_of}
 
 -- the meetings of a board and their rounds
 abbrev pub meetings_on : Board → List Meeting
@@ -35,6 +35,13 @@ rows_of Stations d = d.station_rows.now
 -- the place of an entry in the rows of a side: that of the party of meeting i at round c
 abbrev pub place_of : Board → Side → ℕ → ℕ → ℕ
 place_of d s i c = party_of (meetings_on d) s i * width_of s d.shape + c
+
+-- with x written for the round of meeting i, and y for its group and its station in round c, the slices still are a board
+abbrev pub StillHolds : Board → ℕ → ℕ → ℕ → ℕ → Type 0
+StillHolds d i x c y =
+    Holds (meetings_on d) d.shape (slice_set (rounds_on d) i x)
+    (slice_set d.group_rows.now (place_of d Groups i c) y)
+    (slice_set d.station_rows.now (place_of d Stations i c) y)
 
 -- the board d becomes e, in the same slices: the meetings have the rounds xs now
 pub record Becomes (d e : Board) (xs : List ℕ) : Type 0 where

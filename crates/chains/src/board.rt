@@ -9,7 +9,8 @@ pub const NONE: u16 = 65535;
 
 // The meetings, and three lent slices in which their rounds are kept: the round of each meeting, a row of rounds for each group,
 // and one for each station. Each entry of a row is the one meeting that the party has in the round. That a meeting, a round or
-// what was found is of this board is asked at each call: it is a fact of two values, and a type for it would be made anew at each.
+// what was found is of this board is asked at each call: it is a fact of two values, and a value that holds it would have to be
+// made for each call.
 #[derive(Drop)]
 pub struct Board<'a> {
     pub meetings: &'a [Meeting],

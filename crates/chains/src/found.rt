@@ -8,7 +8,8 @@ use meetings::{MeetingId, Refusal};
 use std::alloc::Global;
 
 // A list of meetings in the order in which they were found, and a mark for each, so that none is looked for in the list, and
-// adding one needs no memory. The list has plain numbers, as the rule has them: of `MeetingId` each clause would be about a `map`.
+// adding one needs no memory. The list has plain numbers, as the rule has them: with `MeetingId` each clause would have to say
+// that its numbers are those of the rule.
 #[derive(Drop)]
 pub struct Found {
     marks: Vec<bool>,
@@ -16,7 +17,7 @@ pub struct Found {
     ghost marked: { Marked marks.items list.items (vec_capacity list) },
 }
 
-// Sets a mark or clears it. Not one generic function with the writing of an entry: that would be `slice[i] = x` itself.
+// Sets a mark or clears it. `write_in_row` does so with an entry; one generic function for both would be `slice[i] = x` itself.
 fn mark(marks: &mut [bool], meeting: MeetingId, set_to: bool)
     requires within { meeting.0 < length marks.old }
     ensures { marks.new ≡ slice_set marks.old meeting.0 set_to }

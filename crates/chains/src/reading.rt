@@ -66,7 +66,7 @@ impl Board<'_> {
 }
 
 // The row of a party in the rows of its side. Rows and width are not one value: a row is a part of one lent slice, and a struct
-// of the two would be made anew at each call.
+// of the two would have to be made for each call.
 pub fn row_in(rows: &[u16], width: u16, party: u16) -> &[u16]
     requires room { party * width + width ≤ length rows.now }
     ensures held { result.now ≡ take width (drop (party * width) rows.now) }

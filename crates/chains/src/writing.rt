@@ -2,9 +2,9 @@
 ghost use Rattle.std.specs.Prelude.{◌≡◌, ◌<◌, length, slice_set};
 ghost use Rattle.meetings.specs.declared.numbers.Side.TheVariants.{Groups, Stations};
 ghost use Rattle.fewest.specs.Plans.{none};
-ghost use Rattle.chains.specs.Boards.{Becomes, meetings_on, place_of, rounds_on};
+ghost use Rattle.chains.specs.Boards.{Becomes, StillHolds, meetings_on, rounds_on};
 ghost use Rattle.chains.specs.Partial.{Vacant, party_of, round_of};
-ghost use Rattle.chains.specs.Rows.{Holds, WithinRows};
+ghost use Rattle.chains.specs.Rows.{WithinRows};
 
 use crate::board::{Board, NONE};
 use crate::rows::write_entry;
@@ -16,7 +16,7 @@ impl Board<'_> {
     fn write(&mut self, meeting: MeetingId, its_round: u16, round: Round, entry: u16)
         requires here { meeting.0 < length (meetings_on self.old) }
         requires within { WithinRows self.old.shape round.0 }
-        requires still { Holds (meetings_on self.old) self.old.shape (slice_set (rounds_on self.old) meeting.0 its_round) (slice_set self.old.group_rows.now (place_of self.old Groups meeting.0 round.0) entry) (slice_set self.old.station_rows.now (place_of self.old Stations meeting.0 round.0) entry) }
+        requires still { StillHolds self.old meeting.0 its_round round.0 entry }
         ensures { Becomes self.old self.new (slice_set (rounds_on self.old) meeting.0 its_round) }
     {
         // `as`, since after a `From` it is not proved which entry is written

@@ -1,7 +1,8 @@
 -- The chain that was found is the rule's, it can be exchanged, and then the meeting can be placed. Assumes nothing.
-use Rattle.std.proofs.Common.{◌≡◌, ℕ, ◌<◌, ◌≤◌, ◌&&◌, ltb, List, [], ◌++◌, length, set, sym, refl, ap, ◌∙◌, arith}
+use Rattle.std.proofs.Common.{◌≡◌, ℕ, ◌<◌, ◌≤◌, ◌&&◌, ltb, Option, Some, List, [], ◌++◌, length, set, sym, refl, ap, ◌∙◌, arith}
 use Rattle.std.proofs.lemmas.Bool.{cond-false, cond-true, le-ltb, lt-ltb}
 use Rattle.meetings.specs.declared.numbers.Meeting.{Meeting}
+use Rattle.meetings.specs.declared.numbers.MeetingId.{MeetingId}
 use Rattle.meetings.specs.declared.numbers.Side.{Side}
 use Rattle.meetings.specs.declared.numbers.Side.TheVariants.{Groups, Stations}
 use Rattle.fewest.specs.Plans.{none}
@@ -12,9 +13,10 @@ use Rattle.chains.specs.Boards.{meetings_on, rounds_on}
 use Rattle.chains.specs.Rows.{WithinRows}
 use Rattle.chains.specs.Chains.{two, holds, chain}
 use Rattle.chains.specs.Exchanges.{Exchangeable, exchanged}
-use Rattle.chains.specs.Partial.{Vacant, party_of, round_of, meeting_of}
+use Rattle.chains.specs.Partial.{Unless, Vacant, party_of, round_of, meeting_of}
 use Rattle.chains.proofs.Exchange.{exchanged_none}
 use Rattle.chains.proofs.Lowest.{lowest_of}
+use Rattle.chains.proofs.Unless.{some_is}
 use Rattle.placing.specs.Putting.{chain_for, common_free, free, own_free, placed, put, put_by_chain}
 use Rattle.placing.specs.OnBoard.{OpensOn, PutsOn, ReadyOn}
 use Rattle.placing.specs.Statements.{Opens, PutIn, Ready}
@@ -23,9 +25,11 @@ use Rattle.placing.proofs.Opens.{chain_opens}
 
 module _ (ms : List Meeting) (xs : List ℕ) (i a b : ℕ) where
   -- nothing was found before, and the chain starts at the station's meeting in a
-  pub chain_is : (is js : List ℕ) (x : ℕ) → is ≡ [] → x ≡ meeting_of ms xs Stations (party_of ms Stations i) a → js ≡ is ++ chain (two ms xs a b) (holds is) x → js ≡ chain_for ms xs i a b
-  chain_is is js x empty first found =
-      found ∙ ap (λ l. l ++ chain (two ms xs a b) (holds l) x) empty ∙ ap (chain (two ms xs a b) (holds [])) first
+  pub chain_is : (is js : List ℕ) (station : ℕ) (met : Option MeetingId) (first : MeetingId) → is ≡ [] → station ≡ party_of ms Stations i → Unless none (λ m. m.0) met (meeting_of ms xs Stations station a) → met ≡ Some first → js ≡ is ++ chain (two ms xs a b) (holds is) first.0 → js ≡ chain_for ms xs i a b
+  chain_is is js station met first empty of_it entry there found =
+      found
+      ∙ ap (λ l. l ++ chain (two ms xs a b) (holds l) first.0) empty
+      ∙ ap (chain (two ms xs a b) (holds [])) ((some_is _ _ _ _ _ entry there).0 ∙ ap (λ p. meeting_of ms xs Stations p a) of_it)
 
   module _ (n k : ℕ) (z : Shape) (is : List ℕ) (same : is ≡ chain_for ms xs i a b) (opens : Opens n k ms xs i a b (chain_for ms xs i a b)) where
     pub exchangeable : WithinRows z a → WithinRows z b → Exchangeable ms z xs is a b

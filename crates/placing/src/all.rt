@@ -31,7 +31,7 @@ fn put_each(board: &mut Board<'_>, rounds: u16, found: &mut Found) -> u64
 }
 
 // Puts in all meetings, in their order, on a board that is emptied first. No group and no station has more meetings than there
-// are rounds, so each gets a round; the looks are 1 + n + k at most for each.
+// are rounds, so each gets a round; with n groups and k stations the looks are 1 + n + k at most for each.
 pub fn put_in_all(board: &mut Board<'_>, rounds: u16, found: &mut Found) -> u64
     requires within { ManyWithin board.old.shape rounds }
     requires spare { (i : ℕ) → i < length (meetings_on board.old) → Spare rounds (meetings_on board.old) i }

@@ -49,8 +49,8 @@ fn put_by_chain(
 }
 
 // Puts one meeting in: into the lowest round in which its group and its station are free, else by a chain. Answers the looks:
-// one for the meeting, and one for each meeting of the chain. The meeting has a round then, all others have one still, and the
-// looks are 1 + n + k at most.
+// one for the meeting, and one for each meeting of the chain. The meeting has a round then, all others have one still, and with
+// n groups and k stations the looks are 1 + n + k at most.
 pub fn put_in(board: &mut Board<'_>, rounds: u16, meeting: MeetingId, found: &mut Found) -> u64
     requires { ReadyOn board.old found.old rounds meeting.0 }
     ensures rule { PutsOn board.old board.new found.old found.new (put rounds (meetings_on board.old) (rounds_on board.old) meeting.0) result }

@@ -6,7 +6,8 @@ use std::alloc::{AllocError, Global};
 use std::test::Fail;
 use trials::Random;
 
-// Whether the group and the station of a meeting have both fewer meetings than the most: a chain for each part of the pair.
+// Whether the group and the station of a meeting both have fewer meetings than the most. They are counted apart, since each is
+// another part of the pair.
 fn has_place(meetings: &[(u8, u8)], meeting: (u8, u8), most: u8) -> bool {
     let (group, station) = meeting;
     let of_group = meetings

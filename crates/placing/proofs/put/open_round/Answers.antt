@@ -4,10 +4,8 @@ use Rattle.meetings.specs.declared.numbers.Side.TheVariants.{Groups, Stations}
 use Rattle.fewest.specs.Plans.{none}
 use Rattle.chains.specs.Boards.{meetings_on, rounds_on}
 use Rattle.chains.specs.Exchanges.{exchanged}
-use Rattle.chains.specs.Partial.{meeting_of}
 use Rattle.chains.proofs.BoardKept.{becomes_also}
 use Rattle.chains.proofs.ChainTurns.{finds_then}
-use Rattle.chains.proofs.Unless.{some_is}
 use Rattle.placing.proofs.ByChain.{chain_is, exchangeable, then_vacant, then_out}
 use Rattle.placing.proofs.put.open_round.Goals as goal
 
@@ -17,8 +15,7 @@ exchange-requires c =
     let i = c.args.meeting.0 in
     let a = c.args.rounds.a.0 in
     let b = c.args.rounds.b.0 in
-    let first = (some_is _ _ _ _ _ c.met.ensures c.unwrap-first.ensures).0 ∙ ap (λ p. meeting_of (meetings_on d) (rounds_on d) Stations p a) c.party_of-station.ensures in
-    let is = c.list.ensures ∙ chain_is (meetings_on d) (rounds_on d) i a b _ _ _ c.requires.unused.empty first c.find_chain.ensures.list in
+    let is = c.list.ensures ∙ chain_is (meetings_on d) (rounds_on d) i a b _ _ _ _ _ c.requires.unused.empty c.party_of-station.ensures c.met.ensures c.unwrap-first.ensures c.find_chain.ensures.list in
     record { closed = exchangeable (meetings_on d) (rounds_on d) i a b _ _ d.shape _ is c.requires.opens c.requires.one c.requires.other }
 
 pub returns : goal.returns
@@ -27,8 +24,7 @@ returns c =
     let i = c.args.meeting.0 in
     let a = c.args.rounds.a.0 in
     let b = c.args.rounds.b.0 in
-    let first = (some_is _ _ _ _ _ c.met.ensures c.unwrap-first.ensures).0 ∙ ap (λ p. meeting_of (meetings_on d) (rounds_on d) Stations p a) c.party_of-station.ensures in
-    let found = chain_is (meetings_on d) (rounds_on d) i a b _ _ _ c.requires.unused.empty first c.find_chain.ensures.list in
+    let found = chain_is (meetings_on d) (rounds_on d) i a b _ _ _ _ _ c.requires.unused.empty c.party_of-station.ensures c.met.ensures c.unwrap-first.ensures c.find_chain.ensures.list in
     let is = c.list.ensures ∙ found in
     let long = ap length (c.list-2.ensures ∙ found) in
     let la : a < none = omega (arith, c.requires.one.0, d.held.groups.narrow) in
