@@ -30,8 +30,9 @@ bytes() { printf "$1" >"$work/day"; }
     exit 1
 }
 plan=crates/plan/out/plan
-expect 0 'rounds 11' '' $plan examples/school.day
-expect 0 'rounds 11' '' $plan - <examples/school.day
+school=$(cat crates/plan/stdout)
+expect 0 "$school" '' $plan examples/school.day
+expect 0 "$school" '' $plan - <examples/school.day
 expect 0 'usage: plan DAY*' '' $plan --help
 expect 1 '' 'plan: one file is needed*plan --help*' $plan
 expect 1 '' 'plan: one file is needed*plan --help*' $plan examples/school.day examples/school.day
@@ -47,8 +48,18 @@ expect 1 'refused 3 at 3' '' $plan "$work/day"
 bytes '\x03\x03\x01\x03\x00\x00\x00\x01\x01\x03\x02'
 expect 1 'refused 4 at 9' '' $plan "$work/day"
 bytes '\x03\x03\x01\x03\x00\x00\x00\x01\x01\x02\x02'
-expect 0 'rounds 3' '' $plan "$work/day"
+expect 0 'rounds 3 looks 3
+meeting 0 round 0
+meeting 1 round 0
+meeting 2 round 0' '' $plan "$work/day"
 bytes '\x01\x01\x04\x00\x00'
-expect 0 'rounds 0' '' $plan "$work/day"
+expect 0 'rounds 0 looks 0' '' $plan "$work/day"
+# Meeting 3 finds no common free round: its group is free in 0, its station in 1. The chain is meeting 2.
+bytes '\x03\x03\x03\x04\x00\x00\x00\x01\x00\x02\x02\x01\x02'
+expect 0 'rounds 2 looks 5
+meeting 0 round 0
+meeting 1 round 1
+meeting 2 round 1
+meeting 3 round 0' '' $plan "$work/day"
 
 exit "$failed"

@@ -1,24 +1,20 @@
-// plan DAY: reads a day's list of meetings and prints the fewest rounds in which they can be held.
+// plan DAY: reads a day's list of meetings and prints a plan with the fewest rounds.
 #![tactic(auto)]
 
-ghost use Rattle.meetings.specs.Bytes.{read_list};
-ghost use Rattle.meetings.specs.Refusals.{accepted, then, Answers};
-ghost use Rattle.fewest.specs.Rounds.{fewest};
-
-// What the program is to print once plans keep to the rooms. Proved, and not called yet.
 mod making;
 mod report;
 
-use fewest::fewest_rounds;
-use meetings::Refusal;
-use std::alloc::Global;
+use making::report_of;
+use placing::Planned;
+use report::Report;
 use std::io::Read;
 use std::process::ExitCode;
 use std::{env, fs, io};
 
 const USAGE: &str = "usage: plan DAY
 
-Prints the fewest rounds in which all meetings of a day can be held.
+Prints a plan with the fewest rounds: their number and the looks that making it took, and the round of each meeting.
+Rooms count for the number of rounds; the plan does not keep to them yet, and a round may hold too many meetings for them.
 DAY is the file with the day's list of meetings; - reads it from standard input.
 A list that breaks a rule is told of in one line, 'refused N at P', with exit status 1.";
 
@@ -31,12 +27,14 @@ fn bytes_of(rt: &HostRuntime, path: &str) -> io::Result<Vec<u8>> {
     Ok(bytes)
 }
 
-// The fewest rounds for the list that the bytes say.
-fn rounds_of(heap: Global, bytes: &[u8]) -> Result<u16, Refusal>
-    ensures { Answers (λ x. x) result (then (read_list bytes.now) (λ d. accepted (fewest d))) }
-{
-    let list = meetings::read(heap, bytes)?;
-    fewest_rounds(heap, &list)
+// The number of rounds and of looks, and then the round of each meeting.
+fn print_report(rt: &HostRuntime, report: &Report) -> io::Result<()> {
+    let Planned { rounds, looks } = report.planned;
+    println!(rt; "rounds {rounds} looks {looks}")?;
+    for (meeting, round) in report.of_meetings.iter().enumerate() {
+        println!(rt; "meeting {meeting} round {round}")?;
+    }
+    Ok(())
 }
 
 fn plan(rt: &HostRuntime, path: &str) -> io::Result<ExitCode> {
@@ -47,9 +45,9 @@ fn plan(rt: &HostRuntime, path: &str) -> io::Result<ExitCode> {
             return Ok(ExitCode::FAILURE);
         }
     };
-    match rounds_of(rt.alloc(), &bytes) {
-        Ok(rounds) => {
-            println!(rt; "rounds {rounds}")?;
+    match report_of(rt.alloc(), &bytes) {
+        Ok(report) => {
+            print_report(rt, &report)?;
             Ok(ExitCode::SUCCESS)
         }
         Err(refusal) => {

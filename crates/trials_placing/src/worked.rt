@@ -75,27 +75,31 @@ fn chains_that_were_worked(rt: HostRuntime) -> Result<(), Fail> {
     Ok(())
 }
 
-// The chain that is followed for the last meeting, of group 0 and station 0, has two meetings of each other group, which is all
-// that it can have: group g meets station g in round 0, and station g - 1 in round 1. Group 0 is busy in round 0.
+// The longest chains for so many groups and stations. The last meeting is of group 0, which is busy in round 0, and of station
+// 0, which is busy in round 1. Its chain is in rounds 1 and 0 in turn. It has no more meetings in round 1 than there are other
+// groups, and no more in round 0 than there are stations besides station 0 and the one that group 0 meets there. So here group g
+// meets station g - 1 in round 1, and station g in round 0.
 #[test]
 fn longest_chains(rt: HostRuntime) -> Result<(), Fail> {
     let heap = rt.alloc();
-    for groups in [2u8, 3, 8, 119] {
-        let mut meetings = Vec::new(heap);
-        let mut rounds = Vec::new(heap);
-        // a loop, since each group adds two meetings, and their rounds to another list
-        for group in 1..groups {
-            meetings.push((group, group))?;
-            rounds.push(1u16)?;
-            meetings.push((group, group - 1))?;
-            rounds.push(0u16)?;
-        }
-        meetings.push((0, groups))?;
-        rounds.push(0)?;
-        meetings.push((0, 0))?;
-        rounds.push(1)?;
-        let list = list_of(heap, groups, groups + 1, 120, &meetings)?;
-        let chain = 2 * (u64::from(groups) - 1);
+    for (groups, stations) in [(2u8, 3u8), (3, 4), (5, 4), (8, 9), (119, 120), (120, 120)] {
+        let in_one = (groups - 1).min(stations - 1);
+        let in_zero = (groups - 1).min(stations - 2);
+        let meetings = (1..=in_zero)
+            .map(|group| (group, group))
+            .chain([(0, stations - 1)])
+            .chain((1..=in_one).map(|group| (group, group - 1)))
+            .chain([(0, 0)])
+            .collect::<Vec<_>>(heap)?;
+        // those of the chain are exchanged
+        let rounds = (1..=in_zero)
+            .map(|_| 1u16)
+            .chain([0])
+            .chain((1..=in_one).map(|_| 0))
+            .chain([1])
+            .collect::<Vec<_>>(heap)?;
+        let list = list_of(heap, groups, stations, 120, &meetings)?;
+        let chain = u64::from(in_zero) + u64::from(in_one);
         check_rounds(&rt, heap, &list, 2, &rounds, chain + 2 + chain)?;
     }
     Ok(())
