@@ -38,6 +38,7 @@ expect 1 '' 'plan: one file is needed*plan --help*' $plan
 expect 1 '' 'plan: one file is needed*plan --help*' $plan examples/school.day examples/school.day
 expect 1 '' 'plan: cannot read no-such.day: No such file*' $plan no-such.day
 expect 1 '' 'plan: cannot read examples: *' $plan examples
+expect 1 '' 'plan: No space left on device*' bash -c "$plan examples/school.day >/dev/full"
 
 bytes '\x01\x01\x01\x00'
 expect 1 'refused 1 at 4' '' $plan "$work/day"

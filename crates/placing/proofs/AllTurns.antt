@@ -11,7 +11,7 @@ use Rattle.chains.proofs.BoardKept.{becomes_then}
 use Rattle.chains.proofs.ChainTurns.{finds_then}
 use Rattle.placing.specs.OnBoard.{PutsOn}
 use Rattle.placing.specs.Putting.{Placed, placed, put, put_from, put_all}
-use Rattle.placing.specs.Statements.{PutIn, Ready, Spare}
+use Rattle.placing.specs.Statements.{NoneBusier, PutIn, Ready}
 use Rattle.placing.proofs.PutAll.{PutBefore, one_before, put_from_more}
 
 -- before meeting i: the board d has become e, with so many looks
@@ -63,5 +63,5 @@ put_all_also r d e f v w xs l first done =
       forgotten = done.forgotten;
     }
 
-pub spare_also : (r : ℕ) (ms ms' : List Meeting) → ms' ≡ ms → ((i : ℕ) → i < length ms → Spare r ms i) → (i : ℕ) → i < length ms' → Spare r ms' i
-spare_also r ms ms' same spare = rw same spare
+pub busier_also : (r : ℕ) (ms ms' : List Meeting) → ms' ≡ ms → NoneBusier r ms → NoneBusier r ms'
+busier_also r ms ms' same most = rw same most

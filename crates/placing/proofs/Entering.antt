@@ -11,7 +11,7 @@ use Rattle.chains.specs.declared.shapes.Shape.{Shape}
 use Rattle.chains.specs.Shapes.{lent_shape}
 use Rattle.chains.proofs.Fitting.{accepted_fits, rows_fit}
 use Rattle.placing.specs.Lent.{LentFor}
-use Rattle.placing.proofs.PutAll.{spare_at}
+use Rattle.placing.proofs.PutAll.{none_busier}
 
 pub enters : (l : MeetingList) (ms : List Meeting) (z : Shape) (r : ℕ) (xs gs ss : List ℕ) → ms ≡ (contents l).meetings → r ≡ fewest (contents l) → accepted z ≡ lent_shape (contents l) r (length xs) (length gs) (length ss) → LentFor ms z r (take (length ms - 0) xs) gs ss
 enters l ms z r xs gs ss same is ok =
@@ -29,5 +29,5 @@ enters l ms z r xs gs ss same is ok =
         station_room = rows_fit d.stations (length ss);
       };
       within = (fits.groups, fits.stations);
-      spare = spare_at d r (proper l).exist enough;
+      none_busier = none_busier d r (proper l).exist enough;
     })

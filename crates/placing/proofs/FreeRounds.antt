@@ -1,5 +1,5 @@
--- A party with r meetings at most, one of which has no round, has a free round below r: were none free, the party would have
--- a meeting in each of the r rounds, and so r of them besides that one. Assumes nothing.
+-- A party of which fewer than r meetings have one of r rounds has a free one among these: were none free, the party would have
+-- a meeting in each. Assumes nothing.
 use Rattle.std.proofs.Common.{◌≡◌, ℕ, zero, suc, ◌+◌, ◌<◌, ◌≤◌, Bool, true, false, ◌&&◌, eqb, ltb, List, length, sym, refl, ap, ◌∙◌, ⊎_elim, arith}
 use Rattle.std.proofs.lemmas.Bool.{cases_lt, cases_eq, both_ways, and_from, eq-eqb, eqb-true, le-ltb}
 use Rattle.meetings.specs.declared.numbers.Meeting.{Meeting}
@@ -13,6 +13,7 @@ use Rattle.chains.specs.Partial.{party_of, round_of, meeting_of}
 use Rattle.chains.proofs.Entries.{at_none, at_cases, at_found}
 use Rattle.chains.proofs.Lowest.{lowest_of}
 use Rattle.placing.specs.Putting.{free, own_free}
+use Rattle.placing.specs.Statements.{placed_of}
 
 count_some : (p : ℕ → Bool) (z n : ℕ) → z < n → p z ≡ true → 1 ≤ count p n
 count_some p z zero h e = absurd (omega arith)
@@ -56,8 +57,8 @@ module _ (ms : List Meeting) (xs : List ℕ) (few : length ms ≤ none) (i : ℕ
   found_is = at_found (length ms) (party_of ms s) (round_of xs) (party_of ms s i) c few
 
 -- A FREE ROUND
-pub has_free : (r : ℕ) (ms : List Meeting) (xs : List ℕ) (i : ℕ) (s : Side) → r ≤ none → length ms ≤ none → i < length ms → round_of xs i ≡ none → meetings_of s (party_of ms s i) ms ≤ r → own_free r ms xs i s < r
-has_free r ms xs i s le few h out most = ⊎_elim (λ below. below) (λ past. absurd (full past)) (cases_lt (own_free r ms xs i s) r)
+pub has_free : (r : ℕ) (ms : List Meeting) (xs : List ℕ) (i : ℕ) (s : Side) → length ms ≤ none → placed_of r ms xs s (party_of ms s i) < r → own_free r ms xs i s < r
+has_free r ms xs i s few spare = ⊎_elim (λ below. below) (λ past. absurd (full past)) (cases_lt (own_free r ms xs i s) r)
   where
     some : r ≤ own_free r ms xs i s → (c : ℕ) → c < r → 1 ≤ count (λ j. eqb (party_of ms s j) (party_of ms s i) && eqb (round_of xs j) c) (length ms)
     some past c l =
@@ -69,6 +70,11 @@ has_free r ms xs i s le few h out most = ⊎_elim (λ below. below) (λ past. ab
     full past =
         let each = total_at_least (λ c. count (λ j. eqb (party_of ms s j) (party_of ms s i) && eqb (round_of xs j) c) (length ms)) r (some past) in
         let by = by_rounds (λ j. eqb (party_of ms s j) (party_of ms s i)) (round_of xs) (length ms) r in
-        let fewer = count_fewer (λ j. eqb (party_of ms s j) (party_of ms s i)) (λ j. ltb (round_of xs j) r) i (length ms) h (eq-eqb _ _ refl) (le-ltb _ _ (omega arith)) in
-        let all = count_places (λ m. eqb (party s m) (party_of ms s i)) ms nobody in
         omega arith
+
+-- a party with r meetings at most has fewer with a round, where one of its meetings has none
+pub spare_for : (r : ℕ) (ms : List Meeting) (xs : List ℕ) (i : ℕ) (s : Side) → r ≤ none → i < length ms → round_of xs i ≡ none → meetings_of s (party_of ms s i) ms ≤ r → placed_of r ms xs s (party_of ms s i) < r
+spare_for r ms xs i s le h out most =
+    let fewer = count_fewer (λ j. eqb (party_of ms s j) (party_of ms s i)) (λ j. ltb (round_of xs j) r) i (length ms) h (eq-eqb _ _ refl) (le-ltb _ _ (omega arith)) in
+    let all = count_places (λ m. eqb (party s m) (party_of ms s i)) ms nobody in
+    omega arith

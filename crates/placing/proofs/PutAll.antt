@@ -12,7 +12,8 @@ use Rattle.fewest.proofs.Busiest.{busiest_is}
 use Rattle.chains.specs.Partial.{Partial, round_of, party_of}
 use Rattle.chains.proofs.EmptyBoard.{none_at}
 use Rattle.placing.specs.Putting.{Placed, placed, put, put_from, put_all}
-use Rattle.placing.specs.Statements.{Ready, Spare, PutIn, PlacedAll, PutsAll, Enough}
+use Rattle.placing.specs.Statements.{Ready, NoneBusier, PutIn, PlacedAll, PutsAll, Enough}
+use Rattle.placing.proofs.FreeRounds.{spare_for}
 use Rattle.placing.proofs.PutOne.{puts}
 
 -- where meeting i comes: those before it have a round below r, it and those behind it have none
@@ -52,20 +53,20 @@ all_before n k r ms p before = record {
 }
 
 -- what is known where meeting i is put in
-pub ready_at : (n k r : ℕ) (ms : List Meeting) (i : ℕ) (p : Placed) → Exist n k ms → length ms ≤ none → r ≤ none → i < length ms → Spare r ms i → PutBefore n k r ms i p → Ready n k r ms p.rounds i
-ready_at n k r ms i p exist few le here spare before = record {
+pub ready_at : (n k r : ℕ) (ms : List Meeting) (i : ℕ) (p : Placed) → Exist n k ms → length ms ≤ none → r ≤ none → i < length ms → NoneBusier r ms → PutBefore n k r ms i p → Ready n k r ms p.rounds i
+ready_at n k r ms i p exist few le here most before = record {
   rounds = le;
   few = few;
   exist = exist;
   plan = before.plan;
   here = here;
   out = before.todo i (omega arith);
-  spare = spare;
+  spare = λ s. spare_for r ms p.rounds i s le here (before.todo i (omega arith)) (most i here s);
 }
 
 -- no party has more meetings than the busiest
-pub spare_at : (d : Contents) (r : ℕ) → Exist d.groups d.stations d.meetings → busiest d ≤ r → (i : ℕ) → i < length d.meetings → Spare r d.meetings i
-spare_at d r exist enough i here s = omega (arith, (busiest_is d).0 s (party_of d.meetings s i) (exist s i here))
+pub none_busier : (d : Contents) (r : ℕ) → Exist d.groups d.stations d.meetings → busiest d ≤ r → NoneBusier r d.meetings
+none_busier d r exist enough i here s = omega (arith, (busiest_is d).0 s (party_of d.meetings s i) (exist s i here))
 
 -- the rule from meeting i on: one meeting more
 pub put_from_more : (r : ℕ) (ms : List Meeting) (i : ℕ) (p : Placed) → i < length ms → put_from r ms (length ms - i) i p ≡ put_from r ms (length ms - (i + 1)) (i + 1) (placed (put r ms p.rounds i).rounds (p.looks + (put r ms p.rounds i).looks))
@@ -91,13 +92,13 @@ busiest_below d =
     (busiest_is d).1
 
 pub puts_all : PutsAll
-puts_all n k r ms exist few le spare = all_before n k r ms (put_all r ms) (from (length ms) 0 _ (omega arith) (none_before n k r ms le))
+puts_all n k r ms exist few le most = all_before n k r ms (put_all r ms) (from (length ms) 0 _ (omega arith) (none_before n k r ms le))
   where
     from : (left i : ℕ) (p : Placed) → i + left ≡ length ms → PutBefore n k r ms i p → PutBefore n k r ms (length ms) (put_from r ms left i p)
     from zero i p e before = let end : i ≡ length ms = omega arith in rw (← end) before
     from (suc left) i p e before =
         let here : i < length ms = omega arith in
-        let one = puts n k r ms p.rounds i (ready_at n k r ms i p exist few le here (spare i here) before) in
+        let one = puts n k r ms p.rounds i (ready_at n k r ms i p exist few le here most before) in
         from left (suc i) _ (omega arith) (one_before n k r ms i p (put r ms p.rounds i) here before one)
 
 -- the same of what was left on a board, and counted
@@ -108,5 +109,5 @@ placed_all_as n k r ms p ys looks e f h = rw (e, f) h
 pub enough : Enough
 enough d r exist few le =
     let b = busiest d in
-    let all = puts_all d.groups d.stations b d.meetings exist few (omega (arith, busiest_below d)) (spare_at d b exist (omega arith)) in
+    let all = puts_all d.groups d.stations b d.meetings exist few (omega (arith, busiest_below d)) (none_busier d b exist (omega arith)) in
     ((put_all b d.meetings).rounds, plan_for_more b r d.meetings _ le all.plan)

@@ -1,5 +1,5 @@
 -- What lent slices hold after planning. Assumes nothing.
-use Rattle.std.specs.Prelude.{◌≡◌, ℕ, ◌+◌, ◌*◌, ◌<◌, ◌≤◌, List, ◌++◌, length, take, drop}
+use Rattle.std.specs.Prelude.{◌≡◌, ℕ, ◌+◌, ◌*◌, ◌≤◌, List, ◌++◌, length, take, drop}
 use Rattle.meetings.specs.declared.numbers.Meeting.{Meeting}
 use Rattle.meetings.specs.Lists.{Contents}
 use Rattle.meetings.specs.Refusals.{Outcome, accepted, then}
@@ -11,13 +11,13 @@ use Rattle.chains.specs.Rows.{Holds, Beyond, ManyWithin}
 use Rattle.chains.specs.Shapes.{Sized, lent_shape, shape_of}
 use Rattle.placing.specs.declared.planned.Planned.{Planned}
 use Rattle.placing.specs.Putting.{put_all}
-use Rattle.placing.specs.Statements.{Spare}
+use Rattle.placing.specs.Statements.{NoneBusier}
 
 -- slices that a board of this shape can be kept in, for meetings that r rounds are enough for
 pub record LentFor (ms : List Meeting) (z : Shape) (r : ℕ) (xs gs ss : List ℕ) : Type 0 where
   pub sized : Sized ms z xs gs ss
   pub within : ManyWithin z r
-  pub spare : (i : ℕ) → i < length ms → Spare r ms i
+  pub none_busier : NoneBusier r ms
 
 -- slices of rows gs and ss that became gs' and ss': they are the rows of the rounds xs, and nothing else was written
 pub record BoardLent (ms : List Meeting) (z : Shape) (xs gs gs' ss ss' : List ℕ) : Type 0 where

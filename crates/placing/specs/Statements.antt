@@ -1,18 +1,27 @@
 -- What is proved of putting in. Statements; assumes nothing.
-use Rattle.std.specs.Prelude.{◌≡◌, ℕ, ◌+◌, ◌*◌, ◌<◌, ◌≤◌, true, List, length, ◌≢◌}
+use Rattle.std.specs.Prelude.{◌≡◌, ℕ, ◌+◌, ◌*◌, ◌<◌, ◌≤◌, true, ◌&&◌, List, length, ◌==◌, ◌≢◌, nat_lt}
 use Rattle.meetings.specs.declared.numbers.Meeting.{Meeting}
 use Rattle.meetings.specs.declared.numbers.Side.{Side}
 use Rattle.meetings.specs.declared.numbers.Side.TheVariants.{Groups, Stations}
 use Rattle.meetings.specs.Lists.{Contents, Exist}
+use Rattle.fewest.specs.Counting.{count}
 use Rattle.fewest.specs.Plans.{none, Plan}
 use Rattle.fewest.specs.Rounds.{meetings_of, busiest}
 use Rattle.chains.specs.Partial.{Partial, meeting_of, round_of, party_of}
 use Rattle.chains.specs.Chains.{two, in_two, holds, Closed}
 use Rattle.placing.specs.Putting.{Placed, common_free, own_free, chain_for, put, put_all}
 
--- there is a round for meeting i: its group and its station have r meetings at most
-abbrev pub Spare : ℕ → List Meeting → ℕ → Type 0
-Spare r ms i = (s : Side) → meetings_of s (party_of ms s i) ms ≤ r
+-- how many meetings of a party have one of r rounds
+abbrev pub placed_of : ℕ → List Meeting → List ℕ → Side → ℕ → ℕ
+placed_of r ms xs s p = count (λ j. (party_of ms s j == p) && nat_lt (round_of xs j) r) (length ms)
+
+-- there is a round for meeting i: of its group and of its station fewer than r meetings have one
+abbrev pub Spare : ℕ → List Meeting → List ℕ → ℕ → Type 0
+Spare r ms xs i = (s : Side) → placed_of r ms xs s (party_of ms s i) < r
+
+-- no group and no station has more than r meetings
+abbrev pub NoneBusier : ℕ → List Meeting → Type 0
+NoneBusier r ms = (i : ℕ) → i < length ms → (s : Side) → meetings_of s (party_of ms s i) ms ≤ r
 
 -- what is known where a meeting is put in
 pub record Ready (n k r : ℕ) (ms : List Meeting) (xs : List ℕ) (i : ℕ) : Type 0 where
@@ -22,7 +31,7 @@ pub record Ready (n k r : ℕ) (ms : List Meeting) (xs : List ℕ) (i : ℕ) : T
   pub plan : Partial r ms xs
   pub here : i < length ms
   pub out : round_of xs i ≡ none
-  pub spare : Spare r ms i
+  pub spare : Spare r ms xs i
 
 -- a meeting is put in: it has a round, all others that had one have one still, those without have none
 pub record PutIn (n k r : ℕ) (ms : List Meeting) (xs : List ℕ) (i : ℕ) (p : Placed) : Type 0 where
@@ -71,5 +80,5 @@ pub record PlacedAll (n k r : ℕ) (ms : List Meeting) (p : Placed) : Type 0 whe
 -- THE RULE PUTS ALL MEETINGS IN, where no group and no station has more than r
 abbrev pub PutsAll : Type 0
 PutsAll =
-    (n k r : ℕ) (ms : List Meeting) → Exist n k ms → length ms ≤ none → r ≤ none → ((i : ℕ) → i < length ms → Spare r ms i) →
+    (n k r : ℕ) (ms : List Meeting) → Exist n k ms → length ms ≤ none → r ≤ none → NoneBusier r ms →
     PlacedAll n k r ms (put_all r ms)

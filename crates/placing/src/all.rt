@@ -7,7 +7,7 @@ ghost use Rattle.chains.specs.Rows.{ManyWithin};
 ghost use Rattle.placing.specs.Lent.{BoardLent, LentFor};
 ghost use Rattle.placing.specs.OnBoard.{PutsOn};
 ghost use Rattle.placing.specs.Putting.{placed, put_all};
-ghost use Rattle.placing.specs.Statements.{PlacedAll, Spare};
+ghost use Rattle.placing.specs.Statements.{NoneBusier, PlacedAll};
 
 use crate::put::put_in;
 use chains::{Board, Found, Shape, empty};
@@ -18,7 +18,7 @@ use meetings::{Meeting, MeetingId};
 fn put_each(board: &mut Board<'_>, rounds: u16, found: &mut Found) -> u64
     requires out { rounds_on board.old ≡ replicate (length (meetings_on board.old)) none }
     requires within { ManyWithin board.old.shape rounds }
-    requires spare { (i : ℕ) → i < length (meetings_on board.old) → Spare rounds (meetings_on board.old) i }
+    requires none_busier { NoneBusier rounds (meetings_on board.old) }
     requires unused { Unused found.old (length (meetings_on board.old)) }
     ensures { PutsOn board.old board.new found.old found.new (put_all rounds (meetings_on board.old)) result }
 {
@@ -34,7 +34,7 @@ fn put_each(board: &mut Board<'_>, rounds: u16, found: &mut Found) -> u64
 // are rounds, so each gets a round; with n groups and k stations the looks are 1 + n + k at most for each.
 pub fn put_in_all(board: &mut Board<'_>, rounds: u16, found: &mut Found) -> u64
     requires within { ManyWithin board.old.shape rounds }
-    requires spare { (i : ℕ) → i < length (meetings_on board.old) → Spare rounds (meetings_on board.old) i }
+    requires none_busier { NoneBusier rounds (meetings_on board.old) }
     requires unused { Unused found.old (length (meetings_on board.old)) }
     ensures rule { PutsOn board.old board.new found.old found.new (put_all rounds (meetings_on board.old)) result }
     ensures placed { PlacedAll board.old.shape.groups board.old.shape.stations rounds (meetings_on board.old) (placed (rounds_on board.new) result) }

@@ -7,7 +7,7 @@ use meetings::{Refusal, read};
 use std::alloc::Global;
 use std::test::Fail;
 
-// As the program plan has it, of which nothing can be imported.
+// The number of rounds of the list that the bytes say.
 fn rounds_of(heap: Global, bytes: &[u8]) -> Result<u16, Refusal> {
     let list = read(heap, bytes)?;
     fewest_rounds(heap, &list)

@@ -76,9 +76,9 @@ fn chains_that_were_worked(rt: HostRuntime) -> Result<(), Fail> {
 }
 
 // The longest chains for so many groups and stations. The last meeting is of group 0, which is busy in round 0, and of station
-// 0, which is busy in round 1. Its chain is in rounds 1 and 0 in turn. It has no more meetings in round 1 than there are other
-// groups, and no more in round 0 than there are stations besides station 0 and the one that group 0 meets there. So here group g
-// meets station g - 1 in round 1, and station g in round 0.
+// 0, which is busy in round 1. Its chain is in rounds 1 and 0 in turn, so in round 1 it has as many meetings as in round 0 or
+// one more. In round 1 it has no more than there are other groups, and in round 0 no more than there are stations besides
+// station 0 and the one that group 0 meets there. Here group g meets station g - 1 in round 1, and station g in round 0.
 #[test]
 fn longest_chains(rt: HostRuntime) -> Result<(), Fail> {
     let heap = rt.alloc();

@@ -13,7 +13,7 @@ put_in-looks-requires c =
     let i = c.loop-meeting.meeting in
     let at = c.loop-meeting.invariant in
     let here : i < length (meetings_on d) = omega (arith, c.loop-meeting-test.true, d.held.few) in
-    let ready = ready_at d.shape.groups d.shape.stations c.args.rounds (meetings_on d) i _ (λ s. (side_rows d s).parties) d.held.few (omega (arith, c.requires.within.0, d.held.groups.narrow)) here (c.requires.spare i here) at.before in
+    let ready = ready_at d.shape.groups d.shape.stations c.args.rounds (meetings_on d) i _ (λ s. (side_rows d s).parties) d.held.few (omega (arith, c.requires.within.0, d.held.groups.narrow)) here c.requires.none_busier at.before in
     record {
       ready = ready_also d.shape e.shape c.args.rounds (meetings_on d) (meetings_on e) (rounds_on e) i at.board.shape at.board.meetings ready;
       within = rw at.board.shape c.requires.within;
