@@ -63,5 +63,5 @@ put_all_also r d e f v w xs l first done =
       forgotten = done.forgotten;
     }
 
-pub busier_also : (r : ℕ) (ms ms' : List Meeting) → ms' ≡ ms → NoneBusier r ms → NoneBusier r ms'
-busier_also r ms ms' same most = rw same most
+pub none_busier_also : (r : ℕ) (ms ms' : List Meeting) → ms' ≡ ms → NoneBusier r ms → NoneBusier r ms'
+none_busier_also r ms ms' same most = rw same most

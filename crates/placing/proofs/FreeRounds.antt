@@ -56,25 +56,30 @@ module _ (ms : List Meeting) (xs : List ℕ) (few : length ms ≤ none) (i : ℕ
   pub found_is : meeting_of ms xs s (party_of ms s i) c < length ms → (party_of ms s (meeting_of ms xs s (party_of ms s i) c) ≡ party_of ms s i) × (round_of xs (meeting_of ms xs s (party_of ms s i) c) ≡ c)
   found_is = at_found (length ms) (party_of ms s) (round_of xs) (party_of ms s i) c few
 
--- A FREE ROUND
-pub has_free : (r : ℕ) (ms : List Meeting) (xs : List ℕ) (i : ℕ) (s : Side) → length ms ≤ none → placed_of r ms xs s (party_of ms s i) < r → own_free r ms xs i s < r
-has_free r ms xs i s few spare = ⊎_elim (λ below. below) (λ past. absurd (full past)) (cases_lt (own_free r ms xs i s) r)
-  where
-    some : r ≤ own_free r ms xs i s → (c : ℕ) → c < r → 1 ≤ count (λ j. eqb (party_of ms s j) (party_of ms s i) && eqb (round_of xs j) c) (length ms)
-    some past c l =
-        let taken = not_free_is ms xs few i s c ((lowest_of (free ms xs i s) r).before c (omega arith)) in
-        let found = found_is ms xs few i s c taken in
-        count_some (λ j. eqb (party_of ms s j) (party_of ms s i) && eqb (round_of xs j) c) (meeting_of ms xs s (party_of ms s i) c) (length ms) taken (and_from _ _ (eq-eqb _ _ found.0) (eq-eqb _ _ found.1))
+module _ (ms : List Meeting) (xs : List ℕ) (i : ℕ) (s : Side) where
+  -- whether a meeting is of the group or the station of meeting i
+  abbrev of_party : ℕ → Bool
+  of_party j = eqb (party_of ms s j) (party_of ms s i)
 
-    full : r ≤ own_free r ms xs i s → ⊥
-    full past =
-        let each = total_at_least (λ c. count (λ j. eqb (party_of ms s j) (party_of ms s i) && eqb (round_of xs j) c) (length ms)) r (some past) in
-        let by = by_rounds (λ j. eqb (party_of ms s j) (party_of ms s i)) (round_of xs) (length ms) r in
-        omega arith
+  -- A FREE ROUND
+  pub has_free : (r : ℕ) → length ms ≤ none → placed_of r ms xs s (party_of ms s i) < r → own_free r ms xs i s < r
+  has_free r few spare = ⊎_elim (λ below. below) (λ past. absurd (full past)) (cases_lt (own_free r ms xs i s) r)
+    where
+      some : r ≤ own_free r ms xs i s → (c : ℕ) → c < r → 1 ≤ count (λ j. of_party j && eqb (round_of xs j) c) (length ms)
+      some past c l =
+          let taken = not_free_is ms xs few i s c ((lowest_of (free ms xs i s) r).before c (omega arith)) in
+          let found = found_is ms xs few i s c taken in
+          count_some (λ j. of_party j && eqb (round_of xs j) c) (meeting_of ms xs s (party_of ms s i) c) (length ms) taken (and_from _ _ (eq-eqb _ _ found.0) (eq-eqb _ _ found.1))
 
--- a party with r meetings at most has fewer with a round, where one of its meetings has none
-pub spare_for : (r : ℕ) (ms : List Meeting) (xs : List ℕ) (i : ℕ) (s : Side) → r ≤ none → i < length ms → round_of xs i ≡ none → meetings_of s (party_of ms s i) ms ≤ r → placed_of r ms xs s (party_of ms s i) < r
-spare_for r ms xs i s le h out most =
-    let fewer = count_fewer (λ j. eqb (party_of ms s j) (party_of ms s i)) (λ j. ltb (round_of xs j) r) i (length ms) h (eq-eqb _ _ refl) (le-ltb _ _ (omega arith)) in
-    let all = count_places (λ m. eqb (party s m) (party_of ms s i)) ms nobody in
-    omega arith
+      full : r ≤ own_free r ms xs i s → ⊥
+      full past =
+          let each = total_at_least (λ c. count (λ j. of_party j && eqb (round_of xs j) c) (length ms)) r (some past) in
+          let by = by_rounds of_party (round_of xs) (length ms) r in
+          omega arith
+
+  -- a party with r meetings at most has fewer with a round, where one of its meetings has none
+  pub spare_for : (r : ℕ) → r ≤ none → i < length ms → round_of xs i ≡ none → meetings_of s (party_of ms s i) ms ≤ r → placed_of r ms xs s (party_of ms s i) < r
+  spare_for r le h out most =
+      let fewer = count_fewer of_party (λ j. ltb (round_of xs j) r) i (length ms) h (eq-eqb _ _ refl) (le-ltb _ _ (omega arith)) in
+      let all = count_places (λ m. eqb (party s m) (party_of ms s i)) ms nobody in
+      omega arith

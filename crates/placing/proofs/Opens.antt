@@ -75,4 +75,4 @@ chain_opens n k r ms xs i ready no_common =
     (la, lb, opened n k r ms xs i ready a b la lb group station taken)
   where
     own : (s : Side) → own_free r ms xs i s < r
-    own s = has_free r ms xs i s ready.few (ready.spare s)
+    own s = has_free ms xs i s r ready.few (ready.spare s)

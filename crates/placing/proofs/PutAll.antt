@@ -61,7 +61,7 @@ ready_at n k r ms i p exist few le here most before = record {
   plan = before.plan;
   here = here;
   out = before.todo i (omega arith);
-  spare = λ s. spare_for r ms p.rounds i s le here (before.todo i (omega arith)) (most i here s);
+  spare = λ s. spare_for ms p.rounds i s r le here (before.todo i (omega arith)) (most i here s);
 }
 
 -- no party has more meetings than the busiest

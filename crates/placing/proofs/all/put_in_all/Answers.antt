@@ -2,12 +2,12 @@
 use Rattle.std.proofs.Common.{arith}
 use Rattle.chains.specs.Boards.{meetings_on}
 use Rattle.chains.proofs.RowsRead.{side_rows}
-use Rattle.placing.proofs.AllTurns.{busier_also, put_all_also}
+use Rattle.placing.proofs.AllTurns.{none_busier_also, put_all_also}
 use Rattle.placing.proofs.PutAll.{puts_all, placed_all_as}
 use Rattle.placing.proofs.all.put_in_all.Goals as goal
 
 pub put_each-requires-clause-none_busier : goal.put_each-requires-clause-none_busier
-put_each-requires-clause-none_busier c = busier_also c.args.rounds (meetings_on c.args.board.now) _ c.empty.ensures.meetings c.requires.none_busier
+put_each-requires-clause-none_busier c = none_busier_also c.args.rounds (meetings_on c.args.board.now) _ c.empty.ensures.meetings c.requires.none_busier
 
 pub returns : goal.returns
 returns c =
