@@ -1,0 +1,4 @@
+pub mod Evening
+pub mod Looking
+pub mod Sizes
+pub mod Statements

@@ -1,0 +1,44 @@
+-- How many meetings each round has, the fullest and the emptiest, and how far the rounds are from even. Definitions; assumes
+-- nothing.
+use Rattle.std.specs.Prelude.{ℕ, ◌+◌, ◌-◌, ◌/◌, max, Bool, List, map, ◌==◌, nat_lt, nat_le}
+use Rattle.std.specs.List.{range_with_len}
+use Rattle.fewest.specs.Counting.{total, count}
+use Rattle.fewest.specs.Plans.{in_round}
+use Rattle.chains.specs.Lowest.{lowest}
+
+-- how many meetings each of r rounds has
+abbrev pub size : List ℕ → ℕ → ℕ
+size xs c = in_round c xs
+
+abbrev pub sizes : ℕ → List ℕ → List ℕ
+sizes r xs = map (size xs) (range_with_len 0 r)
+
+-- the lowest-numbered of r rounds whose size no other's beats, r if r is 0
+abbrev pub unbeaten : (ℕ → ℕ → Bool) → (ℕ → ℕ) → ℕ → ℕ
+unbeaten beats f r = lowest (λ c. count (λ e. beats (f e) (f c)) r == 0) r
+
+abbrev pub more : ℕ → ℕ → Bool
+more x y = nat_lt y x
+
+-- the lowest-numbered of r rounds with the most meetings, and of those with the fewest
+abbrev pub fullest : ℕ → (ℕ → ℕ) → ℕ
+fullest r f = unbeaten more f r
+
+abbrev pub emptiest : ℕ → (ℕ → ℕ) → ℕ
+emptiest r f = unbeaten nat_lt f r
+
+-- the fullest round has at least two meetings more than the emptiest
+abbrev pub uneven : ℕ → (ℕ → ℕ) → Bool
+uneven r f = nat_le (f (emptiest r f) + 2) (f (fullest r f))
+
+-- meetings divided by rounds, rounded down and up
+abbrev pub rounded_down : ℕ → ℕ → ℕ
+rounded_down m r = m / r
+
+abbrev pub rounded_up : ℕ → ℕ → ℕ
+rounded_up m r = (m + (r - 1)) / r
+
+-- HOW FAR FROM EVEN: the larger of two sums, how far the rounds lie above meetings divided by rounds, rounded up, and how far
+-- they lie below it, rounded down
+abbrev pub far : ℕ → (ℕ → ℕ) → ℕ
+far r f = max (total (λ c. f c - rounded_up (total f r) r) r) (total (λ c. rounded_down (total f r) r - f c) r)

@@ -1,0 +1,2 @@
+// Evening out the rounds, and planning a whole day: the fewest rounds, within the rooms, even.
+#![tactic(auto)]
