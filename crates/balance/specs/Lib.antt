@@ -1,4 +1,6 @@
 pub mod Evening
 pub mod Looking
+pub mod OnBoard
+pub mod Ordered
 pub mod Sizes
 pub mod Statements

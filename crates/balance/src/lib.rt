@@ -1,2 +1,5 @@
 // Evening out the rounds, and planning a whole day: the fewest rounds, within the rooms, even.
 #![tactic(auto)]
+
+mod looks;
+mod ordered;

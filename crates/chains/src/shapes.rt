@@ -2,10 +2,11 @@
 ghost use Rattle.std.specs.Prelude.{◌≡◌, ◌≤◌};
 ghost use Rattle.meetings.specs.Held.{contents};
 ghost use Rattle.meetings.specs.Refusals.{outcome};
+ghost use Rattle.chains.specs.Rows.{parties_of};
 ghost use Rattle.chains.specs.Shapes.{lent_shape, lent_width};
 
 use crate::board::NONE;
-use meetings::{Lent, MeetingList, Refusal};
+use meetings::{Lent, MeetingList, Refusal, Side};
 
 // How many groups and stations there are, and how long the row of each is. By name, and not a pair for each side: nearly every
 // use names the side.
@@ -31,6 +32,16 @@ fn row_width(long: usize, parties: u16, rounds: u16, which: Lent) -> Result<u16,
 }
 
 impl Shape {
+    // How many groups or stations there are.
+    pub fn parties(self, side: Side) -> u16
+        ensures { result ≡ parties_of side self }
+    {
+        match side {
+            Side::Groups => self.groups,
+            Side::Stations => self.stations,
+        }
+    }
+
     // The shape of a board over lent slices of these lengths, for so many rounds: three, as a caller lends them. A slice that is
     // too short is refused.
     pub fn of_lent(

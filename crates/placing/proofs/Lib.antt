@@ -1,11 +1,8 @@
 pub mod AllTurns
 pub mod ByChain
-pub mod Entering
 pub mod Found
 pub mod FreeRounds
-pub mod LentEnough
 pub mod Opens
-pub mod Promised
 pub mod PutAll
 pub mod PutOne
 pub mod RowsSearched

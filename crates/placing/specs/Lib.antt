@@ -1,4 +1,3 @@
-pub mod Lent
 pub mod OnBoard
 pub mod Putting
 pub mod Statements

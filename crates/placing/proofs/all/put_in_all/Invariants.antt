@@ -1,5 +1,5 @@
 use Rattle.placing.proofs.AllTurns.{Putting}
-use Rattle.placing.proofs.all.put_each.Given as goal
+use Rattle.placing.proofs.all.put_in_all.Given as goal
 
 -- those before this one are put in
 abbrev pub invariant-loop-meeting : goal.invariant-loop-meeting

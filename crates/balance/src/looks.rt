@@ -1,0 +1,38 @@
+// Looking for a part with one more meeting in one round than in another.
+ghost use Rattle.std.specs.Prelude.{◌≡◌, ℕ, ◌<◌, Some, None, true, false, cond, ◌++◌, length};
+ghost use Rattle.chains.specs.Boards.{InTwo, meetings_on, rounds_on, two_on};
+ghost use Rattle.chains.specs.Chains.{Sound, holds, part};
+ghost use Rattle.chains.specs.Exchanges.{among};
+ghost use Rattle.chains.specs.Finding.{Finds, Unused, among_all, found_in};
+ghost use Rattle.chains.specs.Rows.{WithinRows};
+ghost use Rattle.balance.specs.Looking.{look, one_more};
+ghost use Rattle.balance.specs.OnBoard.{Looks};
+ghost use Rattle.balance.specs.Ordered.{InOrder};
+
+use chains::{Board, Found, TwoRounds};
+use meetings::{MeetingId, Round};
+
+// How many of these meetings are in a round.
+fn count_in(board: &Board<'_>, round: Round, members: &[u16]) -> usize
+    requires within { WithinRows board.now.shape round.0 }
+    requires exist { (i : ℕ) → holds members.now i ≡ true → i < length (meetings_on board.now) }
+    ensures { result ≡ among members.now round.0 (rounds_on board.now) }
+{
+    let mut many = 0;
+    for member in members {
+        if board.round_of(MeetingId(*member)) == Some(round) {
+            many += 1;
+        }
+    }
+    many
+}
+
+// Whether just one more of these meetings is in the first round than in the second.
+fn has_one_more(board: &Board<'_>, rounds: TwoRounds, members: &[u16]) -> bool
+    requires a { WithinRows board.now.shape rounds.a.0 }
+    requires b { WithinRows board.now.shape rounds.b.0 }
+    requires exist { (i : ℕ) → holds members.now i ≡ true → i < length (meetings_on board.now) }
+    ensures { result ≡ one_more (two_on board.now rounds) members.now }
+{
+    count_in(board, rounds.a, members) == count_in(board, rounds.b, members) + 1
+}
