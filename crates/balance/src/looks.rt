@@ -1,7 +1,7 @@
 // Looking for a part with one more meeting in one round than in another.
 ghost use Rattle.std.specs.Prelude.{◌≡◌, ℕ, ◌<◌, Some, None, true, false, cond, ◌++◌, length};
 ghost use Rattle.chains.specs.Boards.{InTwo, meetings_on, rounds_on, two_on};
-ghost use Rattle.chains.specs.Chains.{Sound, holds, part};
+ghost use Rattle.chains.specs.Chains.{Closed, Sound, holds, part};
 ghost use Rattle.chains.specs.Exchanges.{among};
 ghost use Rattle.chains.specs.Finding.{Finds, Unused, among_all, found_in};
 ghost use Rattle.chains.specs.Rows.{WithinRows};
@@ -35,4 +35,27 @@ fn has_one_more(board: &Board<'_>, rounds: TwoRounds, members: &[u16]) -> bool
     ensures { result ≡ one_more (two_on board.now rounds) members.now }
 {
     count_in(board, rounds.a, members) == count_in(board, rounds.b, members) + 1
+}
+
+// Looks at the part of a meeting that is in no part looked at before. Answers where it begins in what was found, if it has one
+// more meeting in the first round.
+fn look_at(
+    board: &Board<'_>,
+    rounds: TwoRounds,
+    meeting: MeetingId,
+    found: &mut Found,
+) -> Option<usize>
+    requires in_two { InTwo board.now rounds meeting.0 }
+    requires all { among_all found.old ≡ length (meetings_on board.now) }
+    requires new { holds (found_in found.old) meeting.0 ≡ false }
+    ensures found { Finds found.old found.new (found_in found.old ++ part (two_on board.now rounds) (holds (found_in found.old)) meeting.0) }
+    ensures start { result ≡ cond (one_more (two_on board.now rounds) (part (two_on board.now rounds) (holds (found_in found.old)) meeting.0)) (Some (length (found_in found.old))) None }
+{
+    let start = found.list().len();
+    board.find_part(rounds, meeting, found);
+    if has_one_more(board, rounds, &found.list()[start..]) {
+        Some(start)
+    } else {
+        None
+    }
 }

@@ -106,6 +106,12 @@ place_held (z ∷ zs) (suc q) d h = rest_held z zs (get_or zs q d) (place_held z
 pub front_held : (t : ℕ) (zs : List ℕ) (j : ℕ) → holds (take t zs) j ≡ true → holds zs j ≡ true
 front_held t zs j h = ap (λ l. holds l j) (sym (take-append-drop t zs)) ∙ ap (λ f. f j) (all_append nothing (take t zs) (drop t zs)) ∙ all_before (holds (take t zs)) (drop t zs) j h
 
+-- and so is who is among the last
+pub back_held : (t : ℕ) (zs : List ℕ) (j : ℕ) → holds (drop t zs) j ≡ true → holds zs j ≡ true
+back_held zero zs j h = h
+back_held (suc t) [] j h = h
+back_held (suc t) (z ∷ zs) j h = rest_held z zs j (back_held t zs j h)
+
 pub place_of : (zs : List ℕ) (j : ℕ) → holds zs j ≡ true → (q : ℕ) × (q < length zs) × (get_or zs q none ≡ j)
 place_of [] j h = absurd (none_held j h)
 place_of (z ∷ zs) j h = ⊎_elim (λ e. (0, omega arith, sym e)) (λ l. let p = place_of zs j l in (suc p.0, omega arith, p.2)) (held_cases z zs j h)

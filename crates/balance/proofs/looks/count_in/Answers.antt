@@ -1,5 +1,4 @@
-use Rattle.std.proofs.Common.{◌<◌, length, arith}
-use Rattle.chains.specs.Boards.{meetings_on}
+use Rattle.std.proofs.Common.{arith}
 use Rattle.chains.proofs.Members.{place_held}
 use Rattle.balance.proofs.looks.count_in.Goals as goal
 

@@ -1,5 +1,5 @@
 -- Group by group the meetings of the two rounds are gathered, and then they are sorted.
-use Rattle.std.proofs.Common.{◌≡◌, ◌<◌, ◌≤◌, ◌∙◌, arith}
+use Rattle.std.proofs.Common.{◌≤◌, ◌∙◌, arith}
 use Rattle.meetings.specs.declared.numbers.Side.TheVariants.{Groups}
 use Rattle.chains.specs.Boards.{two_on}
 use Rattle.chains.specs.Rows.{parties_of}
