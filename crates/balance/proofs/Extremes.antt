@@ -18,15 +18,9 @@ record Strict (beats : ℕ → ℕ → Bool) : Type 0 where
 strict_less : Strict ltb
 strict_less = record {
   itself = λ x. le-ltb x x (omega arith);
-  onward = λ x y z. along x y z;
-  either = λ x y. same x y;
+  onward = λ x y z u v. grind (arith, nat_tests);
+  either = λ x y u v. grind (arith, nat_tests);
 }
-  where
-    along : (x y z : ℕ) → ltb x y ≡ true → ltb y z ≡ true → ltb x z ≡ true
-    along x y z u v = grind (arith, nat_tests)
-
-    same : (x y : ℕ) → ltb x y ≡ false → ltb y x ≡ false → x ≡ y
-    same x y u v = grind (arith, nat_tests)
 
 strict_more : Strict more
 strict_more = record {
@@ -71,6 +65,7 @@ module _ (beats : ℕ → ℕ → Bool) (strict : Strict beats) (f : ℕ → ℕ
           (λ no. no)
           (cases_Bool (beats (f e) (f (suc r))))
 
+  -- so one is found, and it is one that no other beats
   unbeaten_below : (r : ℕ) → 1 ≤ r → unbeaten beats f r < r
   unbeaten_below r h =
       let some = some_best r h in
@@ -91,6 +86,7 @@ module _ (beats : ℕ → ℕ → Bool) (strict : Strict beats) (f : ℕ → ℕ
         passes = λ l. is_best r c top;
       })
 
+-- whether a round is beaten depends on the numbers below r alone
 unbeaten_ext : (beats : ℕ → ℕ → Bool) (r : ℕ) (f g : ℕ → ℕ) → ((c : ℕ) → c < r → f c ≡ g c) → unbeaten beats f r ≡ unbeaten beats g r
 unbeaten_ext beats r f g same =
     lowest_ext (best beats f r) (best beats g r) r (λ c h. ap (λ x. eqb x 0) (count_ext (λ e. beats (f e) (f c)) (λ e. beats (g e) (g c)) r (λ e l. ap (λ x. beats x (f c)) (same e l) ∙ ap (beats (g e)) (same c h))))
@@ -116,6 +112,7 @@ fullest_ext r f g = unbeaten_ext more r f g
 pub emptiest_ext : (r : ℕ) (f g : ℕ → ℕ) → ((c : ℕ) → c < r → f c ≡ g c) → emptiest r f ≡ emptiest r g
 emptiest_ext r f g = unbeaten_ext ltb r f g
 
+-- whether the rounds are uneven depends on the numbers below r alone
 pub uneven_ext : (r : ℕ) (f g : ℕ → ℕ) → 1 ≤ r → ((c : ℕ) → c < r → f c ≡ g c) → uneven r f ≡ uneven r g
 uneven_ext r f g h same =
     let low = same (emptiest r f) (emptiest_is r f h).0 ∙ ap g (emptiest_ext r f g same) in
@@ -129,5 +126,6 @@ even_is r f even a b h k =
     let fewest = (emptiest_is r f (omega arith)).1 b k in
     omega (arith, leb-false _ _ even)
 
+-- UNEVEN: then the fullest and the emptiest differ by two or more
 pub uneven_is : (r : ℕ) (f : ℕ → ℕ) → uneven r f ≡ true → f (emptiest r f) + 2 ≤ f (fullest r f)
 uneven_is r f = leb-true _ _
