@@ -1,1 +1,3 @@
+pub mod Extremes
+pub mod Far
 pub mod InOrder

@@ -55,7 +55,7 @@ numbers_within s d r each =
     largest_within r (numbers s d) (λ i h. omega (arith, number_at s d i (omega arith), each i))
 
 -- meetings divided by rooms, rounded up, is the least number of rounds with rooms enough
-rooms_within : (m q r : ℕ) → 1 ≤ q → m ≤ r * q → (m + (q - 1)) / q ≤ r
+pub rooms_within : (m q r : ℕ) → 1 ≤ q → m ≤ r * q → (m + (q - 1)) / q ≤ r
 rooms_within m q r some enough =
     let more = suc-mul r q in
     let fits : m + (q - 1) < suc r * q = omega arith in
@@ -69,7 +69,7 @@ rounded_up m q some =
     let least = le-div (m / q + min 1 (m % q)) (m + (q - 1)) q some (omega (arith, bounds.1)) in
     omega (arith, most, least)
 
-rooms_enough : (m q r : ℕ) → 1 ≤ q → (m + (q - 1)) / q ≤ r → m ≤ r * q
+pub rooms_enough : (m q r : ℕ) → 1 ≤ q → (m + (q - 1)) / q ≤ r → m ≤ r * q
 rooms_enough m q r some h =
     let whole = div-add-mod' (m + (q - 1)) q in
     let rest = mod-lt (m + (q - 1)) some in

@@ -15,7 +15,7 @@ use Rattle.chains.proofs.Lowest.{lowest_of}
 use Rattle.placing.specs.Putting.{free, own_free}
 use Rattle.placing.specs.Statements.{placed_of}
 
-count_some : (p : ℕ → Bool) (z n : ℕ) → z < n → p z ≡ true → 1 ≤ count p n
+pub count_some : (p : ℕ → Bool) (z n : ℕ) → z < n → p z ≡ true → 1 ≤ count p n
 count_some p z zero h e = absurd (omega arith)
 count_some p z (suc n) h e =
     ⊎_elim (λ last. omega (arith, ap one_if (sym (ap p last) ∙ e))) (λ other. omega (arith, count_some p z n (omega arith) e)) (cases_eq z n)
