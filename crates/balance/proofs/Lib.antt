@@ -1,3 +1,4 @@
 pub mod Extremes
 pub mod Far
 pub mod InOrder
+pub mod LookTurns

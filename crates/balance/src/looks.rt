@@ -1,12 +1,12 @@
 // Looking for a part with one more meeting in one round than in another.
-ghost use Rattle.std.specs.Prelude.{◌≡◌, ℕ, ◌<◌, Some, None, true, false, cond, ◌++◌, length};
+ghost use Rattle.std.specs.Prelude.{◌≡◌, ℕ, ◌<◌, true, false, ◌++◌, length};
 ghost use Rattle.chains.specs.Boards.{InTwo, meetings_on, rounds_on, two_on};
 ghost use Rattle.chains.specs.Chains.{Closed, Sound, holds, part};
 ghost use Rattle.chains.specs.Exchanges.{among};
 ghost use Rattle.chains.specs.Finding.{Finds, Unused, among_all, found_in};
 ghost use Rattle.chains.specs.Rows.{WithinRows};
 ghost use Rattle.balance.specs.Looking.{look, one_more};
-ghost use Rattle.balance.specs.OnBoard.{Looks};
+ghost use Rattle.balance.specs.OnBoard.{Judged, Looks};
 ghost use Rattle.balance.specs.Ordered.{InOrder};
 
 use chains::{Board, Found, TwoRounds};
@@ -49,7 +49,7 @@ fn look_at(
     requires all { among_all found.old ≡ length (meetings_on board.now) }
     requires new { holds (found_in found.old) meeting.0 ≡ false }
     ensures found { Finds found.old found.new (found_in found.old ++ part (two_on board.now rounds) (holds (found_in found.old)) meeting.0) }
-    ensures start { result ≡ cond (one_more (two_on board.now rounds) (part (two_on board.now rounds) (holds (found_in found.old)) meeting.0)) (Some (length (found_in found.old))) None }
+    ensures start { Judged (two_on board.now rounds) (found_in found.old) meeting.0 result }
 {
     let start = found.list().len();
     board.find_part(rounds, meeting, found);
@@ -58,4 +58,29 @@ fn look_at(
     } else {
         None
     }
+}
+
+// Looks at the parts of two rounds in the order of their lowest meetings, up to the first that has one more meeting in the first
+// round. All that were looked at are found, one after the other; answers where the last begins, which is the one that is taken.
+pub(crate) fn look(
+    board: &Board<'_>,
+    rounds: TwoRounds,
+    ordered: &[u16],
+    found: &mut Found,
+) -> usize
+    requires a { WithinRows board.now.shape rounds.a.0 }
+    requires b { WithinRows board.now.shape rounds.b.0 }
+    requires order { InOrder (two_on board.now rounds) ordered.now }
+    requires unused { Unused found.old (length (meetings_on board.now)) }
+    ensures { Looks found.old found.new (look (two_on board.now rounds)) result }
+{
+    for meeting in ordered {
+        let meeting = MeetingId(*meeting);
+        if !found.has(meeting) {
+            if let Some(start) = look_at(board, rounds, meeting, found) {
+                return start;
+            }
+        }
+    }
+    found.list().len()
 }
