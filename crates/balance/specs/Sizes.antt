@@ -1,17 +1,18 @@
 -- How many meetings each round has, the fullest and the emptiest, and how far the rounds are from even. Definitions; assumes
 -- nothing.
-use Rattle.std.specs.Prelude.{ℕ, ◌+◌, ◌-◌, ◌/◌, max, Bool, List, map, ◌==◌, nat_lt, nat_le}
+use Rattle.std.specs.Prelude.{ℕ, ◌+◌, ◌-◌, ◌/◌, ◌≡◌, ◌<◌, ◌≤◌, max, Bool, true, false, Option, MatchOption, Contains, List, map, length, ◌==◌, nat_lt, nat_le, slice_index}
 use Rattle.std.specs.List.{range_with_len}
 use Rattle.fewest.specs.Counting.{total, count}
 use Rattle.fewest.specs.Plans.{in_round}
+use Rattle.chains.specs.declared.neighbours.TwoRounds.{TwoRounds}
 use Rattle.chains.specs.Lowest.{lowest}
 
 -- how many meetings each of r rounds has
 abbrev pub size : List ℕ → ℕ → ℕ
 size xs c = in_round c xs
 
-abbrev pub sizes : ℕ → List ℕ → List ℕ
-sizes r xs = map (size xs) (range_with_len 0 r)
+abbrev pub sizes_of : ℕ → List ℕ → List ℕ
+sizes_of r xs = map (size xs) (range_with_len 0 r)
 
 -- the lowest-numbered of r rounds whose size no other's beats, r if r is 0
 abbrev pub unbeaten : (ℕ → ℕ → Bool) → (ℕ → ℕ) → ℕ → ℕ
@@ -42,3 +43,22 @@ rounded_up m r = (m + (r - 1)) / r
 -- they lie below it, rounded down
 abbrev pub far : ℕ → (ℕ → ℕ) → ℕ
 far r f = max (total (λ c. f c - rounded_up (total f r) r) r) (total (λ c. rounded_down (total f r) r - f c) r)
+
+-- the greatest of some numbers, and the least
+pub record Greatest (xs : List ℕ) (x : ℕ) : Type 0 where
+  pub all : (i : ℕ) → i < length xs → slice_index xs i ≤ x
+  pub one : 1 ≤ length xs → Contains xs x
+
+pub record Least (xs : List ℕ) (x : ℕ) : Type 0 where
+  pub all : (i : ℕ) → i < length xs → x ≤ slice_index xs i
+  pub one : 1 ≤ length xs → Contains xs x
+
+-- the fullest and the emptiest of r rounds
+pub record Extremes (r : ℕ) (f : ℕ → ℕ) (t : TwoRounds) : Type 0 where
+  pub fullest : t.a.0 ≡ fullest r f
+  pub emptiest : t.b.0 ≡ emptiest r f
+  pub uneven : uneven r f ≡ true
+
+-- these, if they are uneven
+abbrev pub IfUneven : ℕ → (ℕ → ℕ) → Option TwoRounds → Type 0
+IfUneven r f o = MatchOption o (uneven r f ≡ false) (Extremes r f)

@@ -3,3 +3,4 @@
 
 mod looks;
 mod ordered;
+mod sizes;

@@ -1,0 +1,42 @@
+-- The first round with the greatest size is the fullest, and the first with the least is the emptiest. Assumes nothing.
+use Rattle.std.proofs.Common.{◌≡◌, ℕ, ◌<◌, ◌≤◌, true, eqb, Contains, Option, List, length, get_or, sym, refl, ap, ◌∙◌, subst, ⊎_elim, arith}
+use Rattle.std.specs.List.{position}
+use Rattle.std.proofs.lemmas.Bool.{both_ways, cases_lt, eq-eqb, eqb-true}
+use Rattle.std.proofs.lemmas.List.{get_or_default}
+use Rattle.chains.specs.Lowest.{lowest}
+use Rattle.chains.specs.Partial.{Unless}
+use Rattle.chains.proofs.Lowest.{lowest_of}
+use Rattle.placing.proofs.Found.{position_lowest}
+use Rattle.balance.specs.Sizes.{Greatest, Least, fullest, emptiest}
+use Rattle.balance.proofs.Extremes.{fullest_found, emptiest_found}
+
+-- the first place of x is what the first place of x must be, 0 where there is none
+module _ (xs : List ℕ) (x place : ℕ) (some : 1 ≤ length xs → Contains xs x) (is : (c : ℕ) → c < length xs → get_or xs c 0 ≡ x → ((e : ℕ) → e < c → get_or xs e 0 ≡ get_or xs c 0 → ⊥) → place ≡ c) (empty : length xs ≡ 0 → place ≡ 0) where
+  first_is : lowest (λ c. eqb (get_or xs c 0) x) (length xs) ≡ place
+  first_is =
+      let low = lowest_of (λ c. eqb (get_or xs c 0) x) (length xs) in
+      let c = lowest (λ c. eqb (get_or xs c 0) x) (length xs) in
+      ⊎_elim
+      (λ none. let no : length xs ≡ 0 = omega arith in omega (arith, low.most, empty no))
+      (λ long.
+      let there = some long in
+      ⊎_elim
+      (λ below. let here = eqb-true _ _ (low.passes below) in sym (is c below here (λ e l same. both_ways _ (low.before e l) (eq-eqb _ _ (same ∙ here)))))
+      (λ past. absurd (both_ways _ (low.before there.0 (omega (arith, there.1))) (eq-eqb _ _ (get_or_default xs there.0 0 x there.1 ∙ there.2))))
+      (cases_lt c (length xs)))
+      (cases_lt (length xs) 1)
+
+  first_place : Unless (length xs) (λ c. c) (position (λ y. eqb y x) xs) place
+  first_place = subst (λ n. Unless (length xs) (λ c. c) (position (λ y. eqb y x) xs) n) first_is (position_lowest 0 (λ y. eqb y x) (λ c. eqb (get_or xs c 0) x) xs (length xs) refl (λ c h. refl))
+
+pub greatest_first : (xs : List ℕ) (x : ℕ) → Greatest xs x → Unless (length xs) (λ c. c) (position (λ y. eqb y x) xs) (fullest (length xs) (λ c. get_or xs c 0))
+greatest_first xs x top =
+    first_place xs x _ top.one
+    (λ c h e first. fullest_found (length xs) (λ c. get_or xs c 0) c h (λ i l. omega (arith, top.all i l)) first)
+    (λ none. ap (λ n. fullest n (λ c. get_or xs c 0)) none)
+
+pub least_first : (xs : List ℕ) (x : ℕ) → Least xs x → Unless (length xs) (λ c. c) (position (λ y. eqb y x) xs) (emptiest (length xs) (λ c. get_or xs c 0))
+least_first xs x bottom =
+    first_place xs x _ bottom.one
+    (λ c h e first. emptiest_found (length xs) (λ c. get_or xs c 0) c h (λ i l. omega (arith, bottom.all i l)) first)
+    (λ none. ap (λ n. emptiest n (λ c. get_or xs c 0)) none)

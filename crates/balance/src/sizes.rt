@@ -1,0 +1,87 @@
+// How many meetings each round has, and the fullest and the emptiest.
+ghost use Rattle.std.specs.Prelude.{◌≡◌, ℕ, ◌+◌, ◌-◌, ◌<◌, ◌≤◌, length, ◌==◌, ◌≢◌, slice_index, slice_set, position};
+ghost use Rattle.fewest.specs.Plans.{none};
+ghost use Rattle.chains.specs.Partial.{Unless};
+ghost use Rattle.balance.specs.Sizes.{Greatest, IfUneven, Least, emptiest, fullest, sizes_of};
+
+use chains::TwoRounds;
+use meetings::Round;
+
+// Counts how many meetings each round has; those without a round are not counted.
+pub fn count_sizes(rounds: &[u16], sizes: &mut [u16])
+    requires few { length rounds.now ≤ none }
+    ensures { sizes.new ≡ sizes_of (length sizes.old) rounds.now }
+{
+    sizes.fill(0);
+    for round in rounds {
+        // `as`, since after a `From` it is not proved which entry is written
+        let at = *round as usize;
+        if at < sizes.len() {
+            sizes[at] += 1;
+        }
+    }
+}
+
+// The first round of this size.
+fn first_of(sizes: &[u16], size: u16) -> Option<usize>
+    ensures { result ≡ position (λ x. x == size) sizes.now }
+{
+    sizes.iter().position(|other| *other == size)
+}
+
+// The greatest of these numbers, 0 where there are none.
+fn greatest_of(numbers: &[u16]) -> u16
+    ensures { Greatest numbers.now result }
+{
+    numbers.iter().copied().max().unwrap_or(0)
+}
+
+// The least of these numbers, 0 where there are none.
+fn least_of(numbers: &[u16]) -> u16
+    ensures { Least numbers.now result }
+{
+    numbers.iter().copied().min().unwrap_or(0)
+}
+
+// The lowest-numbered round with the most meetings, none if there are no rounds.
+fn fullest(sizes: &[u16]) -> Option<Round>
+    requires few { length sizes.now ≤ none }
+    ensures { Unless (length sizes.now) (λ c. c.0) result (fullest (length sizes.now) (slice_index sizes.now)) }
+{
+    // `as`, since it is proved to fit
+    first_of(sizes, greatest_of(sizes)).map(|round| Round(round as u16))
+}
+
+// The lowest-numbered round with the fewest meetings, none if there are no rounds.
+fn emptiest(sizes: &[u16]) -> Option<Round>
+    requires few { length sizes.now ≤ none }
+    ensures { Unless (length sizes.now) (λ c. c.0) result (emptiest (length sizes.now) (slice_index sizes.now)) }
+{
+    first_of(sizes, least_of(sizes)).map(|round| Round(round as u16))
+}
+
+// The fullest and the emptiest round, if the one has at least two meetings more than the other.
+pub(crate) fn uneven_rounds(sizes: &[u16]) -> Option<TwoRounds>
+    requires few { length sizes.now ≤ none }
+    ensures { IfUneven (length sizes.now) (slice_index sizes.now) result }
+{
+    let a = fullest(sizes)?;
+    let b = emptiest(sizes)?;
+    if u32::from(sizes[a.0 as usize]) < u32::from(sizes[b.0 as usize]) + 2 {
+        return None;
+    }
+    Some(TwoRounds { a, b })
+}
+
+// One meeting less in the first round, and one more in the second.
+pub(crate) fn move_one(sizes: &mut [u16], rounds: TwoRounds)
+    requires a { rounds.a.0 < length sizes.old }
+    requires b { rounds.b.0 < length sizes.old }
+    requires some { 1 ≤ slice_index sizes.old rounds.a.0 }
+    requires different { rounds.a.0 ≢ rounds.b.0 }
+    requires few { slice_index sizes.old rounds.b.0 < none }
+    ensures { sizes.new ≡ slice_set (slice_set sizes.old rounds.a.0 (slice_index sizes.old rounds.a.0 - 1)) rounds.b.0 (slice_index sizes.old rounds.b.0 + 1) }
+{
+    sizes[rounds.a.0 as usize] -= 1;
+    sizes[rounds.b.0 as usize] += 1;
+}
