@@ -1,6 +1,7 @@
 -- Two parts that share a meeting have the same meetings, and so as many in each round: from the shared meeting one comes back to
 -- where the one part starts, and from there to each of its meetings. Assumes nothing.
-use Rattle.std.proofs.Common.{◌≡◌, ℕ, Bool, true, false, ◌&&◌, eqb, List, sym, refl, ap, ◌∙◌, arith}
+use Rattle.std.proofs.Common.{◌≡◌, ℕ, Bool, true, ◌&&◌, eqb, List, sym, ap, ◌∙◌}
+use Rattle.std.specs.Cmp.{both_ways}
 use Rattle.fewest.proofs.Counting.{count_ext}
 use Rattle.chains.specs.Chains.{Two, Closed, Linked, itself, next, holds}
 use Rattle.chains.specs.Statements.{in_part, PartOf}
@@ -26,14 +27,9 @@ module _ (t : Two) (x y k : ℕ) (is js : List ℕ) (one : PartOf t x is) (other
 
 same_members : (t : Two) (x y k : ℕ) (is js : List ℕ) → PartOf t x is → PartOf t y js → holds is k ≡ true → holds js k ≡ true → (j : ℕ) → holds is j ≡ holds js j
 same_members t x y k is js one other in_one in_other j =
-    alike (holds is j) (holds js j)
+    both_ways (holds is j) (holds js j)
     (member_of_other t x y k is js one other in_one in_other j)
     (member_of_other t y x k js is other one in_other in_one j)
-  where
-    alike : (x y : Bool) → (x ≡ true → y ≡ true) → (y ≡ true → x ≡ true) → x ≡ y
-    alike true y f g = sym (f refl)
-    alike false true f g = g refl
-    alike false false f g = refl
 
 pub same_numbers : (t : Two) (x y k : ℕ) (is js : List ℕ) → PartOf t x is → PartOf t y js → holds is k ≡ true → holds js k ≡ true → (c : ℕ) → in_part t c is ≡ in_part t c js
 same_numbers t x y k is js one other in_one in_other c =
