@@ -1,3 +1,4 @@
+pub mod FirstPart
 pub mod Looking
 pub mod Passed
 pub mod SamePart
