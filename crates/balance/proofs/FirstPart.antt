@@ -1,6 +1,6 @@
 -- There is a part with one more meeting in the fuller of two rounds, and looking finds the first: if all parts were passed over,
 -- their meetings would be all of the two rounds, with no more in the fuller than in the other. Assumes nothing.
-use Rattle.std.proofs.Common.{◌≡◌, ℕ, suc, ◌<◌, ◌≤◌, Bool, true, false, ◌&&◌, eqb, ◌==◌, ◌⊎◌, List, length, ◌++◌, ◌↔◌, sym, refl, ap, ◌∙◌, subst, ⊎_elim, arith}
+use Rattle.std.proofs.Common.{◌≡◌, ℕ, suc, ◌<◌, ◌≤◌, Bool, true, false, ◌&&◌, eqb, ◌==◌, List, length, ◌++◌, ◌↔◌, sym, refl, ap, ◌∙◌, ⊎_elim, arith}
 use Rattle.std.proofs.lemmas.Bool.{both_ways, cases_lt, or_left, or_right}
 use Rattle.meetings.specs.declared.numbers.Meeting.{Meeting}
 use Rattle.fewest.specs.Counting.{count}
@@ -59,30 +59,32 @@ module _ (t : Two) (l : Looked) (i : ℕ) (taken : Taken t l i) where
   are_looked_at : (j : ℕ) → (holds (l.passed ++ l.taken) j ≡ true) ↔ ((k : ℕ) × (k ≤ i) × (in_two t k ≡ true) × Linked t k j)
   are_looked_at j = (
     λ h. ⊎_elim
-      (λ old. let from = taken.before.linked j old in (from.0, omega (arith, from.1), from.2, from.3))
-      (λ new. (i, omega arith, (taken.whole.within i taken.whole.starts).1, taken.whole.linked j new))
-      (append_cases l.passed l.taken j h),
+        (λ old. let from = taken.before.linked j old in (from.0, omega (arith, from.1), from.2, from.3))
+        (λ new. (i, omega arith, (taken.whole.within i taken.whole.starts).1, taken.whole.linked j new))
+        (append_cases l.passed l.taken j h),
     λ from. ⊎_elim
-      (λ lower. in_front l.passed l.taken j (linked_on t (holds l.passed) taken.before.closed from.0 j from.3 (taken.before.below from.0 lower from.2)))
-      (λ le.
-      let here : from.0 ≡ i = omega (arith, from.1) in
-      in_back l.passed l.taken j (linked_on t (holds l.taken) taken.whole.closed from.0 j from.3 (ap (holds l.taken) here ∙ taken.whole.starts)))
-      (cases_lt from.0 i),
+        (λ lower. in_front l.passed l.taken j (linked_on t (holds l.passed) taken.before.closed from.0 j from.3 (taken.before.below from.0 lower from.2)))
+        (λ le.
+        let here : from.0 ≡ i = omega (arith, from.1) in
+        in_back l.passed l.taken j (linked_on t (holds l.taken) taken.whole.closed from.0 j from.3 (ap (holds l.taken) here ∙ taken.whole.starts)))
+        (cases_lt from.0 i),
   )
 
 pub first_part : (t : Two) → Sound t → count (λ i. t.round i == t.b) t.many < count (λ i. t.round i == t.a) t.many → (i : ℕ) × FirstPart t (look t) i
 first_part t sound fuller =
     ⊎_elim
     (λ found.
-    let p = found.1 in
-    (found.0, record {
-      whole = p.whole;
-      one_more = p.more;
-      lowest = is_lowest t (look t) found.0 p;
-      first = is_first t (look t) found.0 p;
-      once = (looked_at t sound).once;
-      looked_at = are_looked_at t (look t) found.0 p;
-    }))
+    let p = found.1 in (
+      found.0,
+      record {
+        whole = p.whole;
+        one_more = p.more;
+        lowest = is_lowest t (look t) found.0 p;
+        first = is_first t (look t) found.0 p;
+        once = (looked_at t sound).once;
+        looked_at = are_looked_at t (look t) found.0 p;
+      },
+    ))
     (λ all. absurd (not_all t (look t).passed all.0 fuller))
     (ended t sound)
 

@@ -12,7 +12,7 @@ use Rattle.chains.proofs.Short.{in_either}
 use Rattle.balance.specs.Looking.{Looked, look, looks_of}
 use Rattle.balance.proofs.Passed.{Passed, ended}
 
--- of the parts looked at, and of what was taken: all of it, or nothing
+-- no meeting is looked at twice, and each is in one of the two rounds; what was taken, a part or nothing, is a closed set
 pub record LookedAt (t : Two) (l : Looked) : Type 0 where
   pub once : Once (l.passed ++ l.taken)
   pub within : (j : ℕ) → holds (l.passed ++ l.taken) j ≡ true → (j < t.many) × (in_two t j ≡ true)
@@ -20,8 +20,8 @@ pub record LookedAt (t : Two) (l : Looked) : Type 0 where
   pub taken_within : (j : ℕ) → holds l.taken j ≡ true → (j < t.many) × (in_two t j ≡ true)
   pub taken_closed : Closed t (holds l.taken)
 
--- if what was taken shares no meeting with what was passed over
-pub with_taken : (t : Two) (l : Looked) (i : ℕ) → Passed t i l.passed → Once l.taken → ((j : ℕ) → holds l.taken j ≡ true → (j < t.many) × (in_two t j ≡ true)) → Closed t (holds l.taken) → ((j : ℕ) → holds l.taken j ≡ true → holds l.passed j ≡ false) → LookedAt t l
+-- what was passed over, and a closed set that shares no meeting with it
+with_taken : (t : Two) (l : Looked) (i : ℕ) → Passed t i l.passed → Once l.taken → ((j : ℕ) → holds l.taken j ≡ true → (j < t.many) × (in_two t j ≡ true)) → Closed t (holds l.taken) → ((j : ℕ) → holds l.taken j ≡ true → holds l.passed j ≡ false) → LookedAt t l
 with_taken t l i before once within closed new = record {
   once = once_from_fresh (l.passed ++ l.taken) (fresh_append l.passed l.taken (fresh_from_once l.passed before.once) (fresh_from_once l.taken once) (λ j old h. both_ways (holds l.passed j) (new j h) old));
   within = λ j h. ⊎_elim (before.within j) (within j) (append_cases l.passed l.taken j h);
@@ -41,7 +41,7 @@ looked_at t sound =
     nobody e j h = none_held j (ap (λ is. holds is j) (sym e) ∙ h)
 
 -- meetings that stand in a list once are no more in a round than there are
-pub part_of_round : (t : Two) (c : ℕ) (is : List ℕ) → Once is → ((j : ℕ) → holds is j ≡ true → j < t.many) → in_part t c is ≤ count (λ i. t.round i == c) t.many
+part_of_round : (t : Two) (c : ℕ) (is : List ℕ) → Once is → ((j : ℕ) → holds is j ≡ true → j < t.many) → in_part t c is ≤ count (λ i. t.round i == c) t.many
 part_of_round t c is once below =
     let members = count_members (λ j. eqb (t.round j) c) is t.many once below in
     let most = total_le (λ j. one_if (holds is j && eqb (t.round j) c)) (λ j. one_if (eqb (t.round j) c)) t.many (λ j h. fewer (holds is j) (eqb (t.round j) c)) in

@@ -4,11 +4,11 @@ use Rattle.std.proofs.Common.{◌≡◌, ℕ, zero, suc, ◌+◌, ◌<◌, ◌�
 use Rattle.std.proofs.lemmas.Bool.{both_ways, and_from, and_parts, cases_Bool, cases_eq, cond_both, eqb-true, eqb-false, not-true, not_from_false, or_right}
 use Rattle.std.proofs.lemmas.List.Sums.{sum_by-append}
 use Rattle.fewest.specs.Counting.{one_if}
-use Rattle.chains.specs.Chains.{Two, in_two, Sound, Closed, Linked, itself, nothing, holds, part}
+use Rattle.chains.specs.Chains.{Two, in_two, Sound, Closed, Linked, nothing, holds, part}
 use Rattle.chains.specs.Statements.{Once, in_part, PartOf}
 use Rattle.chains.proofs.Members.{in_all, all_before, all_append, append_cases, none_held, fresh_append, fresh_from_once, once_from_fresh}
 use Rattle.chains.proofs.Parts.{parts}
-use Rattle.balance.specs.Looking.{one_more, Looked, look_from, look}
+use Rattle.balance.specs.Looking.{one_more, Looked, looked, look_from, look}
 use Rattle.balance.specs.Statements.{OneMore}
 
 -- a member of either list is one of both together
@@ -73,7 +73,7 @@ skipped t i is before over = record {
     there : in_two t i ≡ true → holds is i ≡ true
     there in_i = ⊎_elim (λ one. one) (λ out. absurd (both_ways _ over (and_from _ _ in_i (not_from_false _ out)))) (cases_Bool (holds is i))
 
--- any other meeting: its part shares none with those passed over, and is passed over with them where it has not one more
+-- any other meeting: its part shares none with those passed over, and is passed over or taken
 module _ (t : Two) (sound : Sound t) (i : ℕ) (is : List ℕ) (h : i < t.many) (before : Passed t i is) where
   part_there : (in_two t i && not (holds is i)) ≡ true → PartOf t i (part t (holds is) i) × ((j : ℕ) → holds (part t (holds is) i) j ≡ true → holds is j ≡ false) × Closed t (holds (is ++ part t (holds is) i))
   part_there start =
@@ -94,30 +94,33 @@ module _ (t : Two) (sound : Sound t) (i : ℕ) (is : List ℕ) (h : i < t.many) 
         once = once_from_fresh (is ++ ps) (fresh_append is ps (fresh_from_once is before.once) (fresh_from_once ps there.0.once) (λ j old new. both_ways (holds is j) (there.1 j new) old));
         closed = there.2;
         below = λ k l in_k. ⊎_elim
-          (λ e. in_back is ps k (ap (holds ps) e ∙ there.0.starts))
-          (λ other. in_front is ps k (before.below k (omega arith) in_k))
-          (cases_eq k i);
+            (λ e. in_back is ps k (ap (holds ps) e ∙ there.0.starts))
+            (λ other. in_front is ps k (before.below k (omega arith) in_k))
+            (cases_eq k i);
         linked = λ j m. ⊎_elim
-          (λ old. let from = before.linked j old in (from.0, omega (arith, from.1), from.2, from.3))
-          (λ new. (i, omega arith, in_i, there.0.linked j new))
-          (append_cases is ps j m);
+            (λ old. let from = before.linked j old in (from.0, omega (arith, from.1), from.2, from.3))
+            (λ new. (i, omega arith, in_i, there.0.linked j new))
+            (append_cases is ps j m);
         passable = λ k m. ⊎_elim
-          (before.passable k)
-          (λ new. record { start = i; members = ps; whole = there.0; there = new; not_one_more = not_one })
-          (append_cases is ps k m);
+            (before.passable k)
+            (λ new. record { start = i; members = ps; whole = there.0; there = new; not_one_more = not_one })
+            (append_cases is ps k m);
         not_fuller = omega (arith, before.not_fuller, there.0.even.0, not_one);
       }
+
+  part_taken : (in_two t i && not (holds is i)) ≡ true → one_more t (part t (holds is) i) ≡ true → Taken t (looked is (part t (holds is) i)) i
+  part_taken start more = let there = part_there start in record { before = before; whole = there.0; more = eqb-true _ _ more; new = there.1 }
 
 looked_from : (t : Two) → Sound t → (left i : ℕ) (is : List ℕ) → i + left ≡ t.many → Passed t i is → Ended t (look_from t left i is)
 looked_from t sound zero i is e before = inr (subst (λ k. Passed t k is) (omega arith) before, refl)
 looked_from t sound (suc left) i is e before =
+    let h : i < t.many = omega arith in
+    let next : suc i + left ≡ t.many = omega arith in
     cond_both (in_two t i && not (holds is i)) _ _ (Ended t)
     (λ start. cond_both (one_more t (part t (holds is) i)) _ _ (Ended t)
-      (λ yes.
-      let there = part_there t sound i is (omega arith) before start in
-      inl (i, record { before = before; whole = there.0; more = eqb-true _ _ yes; new = there.1 }))
-      (λ no. looked_from t sound left (suc i) (is ++ part t (holds is) i) (omega arith) (passed_over t sound i is (omega arith) before start no)))
-    (λ over. looked_from t sound left (suc i) is (omega arith) (skipped t i is before over))
+    (λ more. inl (i, part_taken t sound i is h before start more))
+    (λ no_more. looked_from t sound left (suc i) (is ++ part t (holds is) i) next (passed_over t sound i is h before start no_more)))
+    (λ over. looked_from t sound left (suc i) is next (skipped t i is before over))
 
 -- LOOKING ENDS at a part with one more, or has passed over all
 pub ended : (t : Two) → Sound t → Ended t (look t)

@@ -14,7 +14,7 @@ linked_on t C closed i j itself h = h
 linked_on t C closed i j (next k l way beside) h = closed k l beside (linked_on t C closed i k way h)
 
 -- and all from which one comes to it
-pub linked_back : (t : Two) (C : ℕ → Bool) → Closed t C → (i j : ℕ) → Linked t i j → C j ≡ true → C i ≡ true
+linked_back : (t : Two) (C : ℕ → Bool) → Closed t C → (i j : ℕ) → Linked t i j → C j ≡ true → C i ≡ true
 linked_back t C closed i j itself h = h
 linked_back t C closed i j (next k l way beside) h = linked_back t C closed i k way (closed l k (beside_back t k l beside) h)
 
