@@ -36,7 +36,7 @@ not_all t is all fuller =
 
 -- what was taken is the first part with one more
 module _ (t : Two) (l : Looked) (i : ℕ) (taken : Taken t l i) where
-  -- lower meetings are in parts passed over
+  -- each lower meeting of the two rounds is in a part passed over
   is_lowest : (j : ℕ) → holds l.taken j ≡ true → i ≤ j
   is_lowest j h =
       ⊎_elim
@@ -44,7 +44,7 @@ module _ (t : Two) (l : Looked) (i : ℕ) (taken : Taken t l i) where
       (λ le. le)
       (cases_lt j i)
 
-  -- and so is a part that has a lower meeting, but no part passed over has one more
+  -- a part that has a lower meeting was passed over, and no such part has one more
   is_first : (j : ℕ) (js : List ℕ) → PartOf t j js → OneMore t js → (k : ℕ) → holds js k ≡ true → i ≤ k
   is_first j js whole more k h =
       ⊎_elim
