@@ -1,5 +1,9 @@
 pub mod Extremes
 pub mod ExtremesFound
 pub mod Far
+pub mod FirstPart
 pub mod InOrder
 pub mod LookTurns
+pub mod Looking
+pub mod Passed
+pub mod SamePart

@@ -64,7 +64,7 @@ even_part t sound e f turn V W s q x zs ys here one two =
     let in_f = sum_by-append (λ j. one_if (eqb (t.round j) f)) (x ∷ zs) ys in
     (omega arith, omega arith)
 
-beside_back : (t : Two) (i k : ℕ) → Beside t i k → Beside t k i
+pub beside_back : (t : Two) (i k : ℕ) → Beside t i k → Beside t k i
 beside_back t i k b = record { one = b.other; other = b.one; one_in = b.other_in; other_in = b.one_in; shared = (b.shared.0, sym b.shared.1) }
 
 -- a meeting of the two rounds to which one comes from x

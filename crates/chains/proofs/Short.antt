@@ -14,7 +14,7 @@ use Rattle.chains.specs.Statements.{in_part, PartOf, Short}
 use Rattle.chains.proofs.Members.{count_members, first_held, rest_held}
 
 -- each meeting is in one of the two rounds
-in_either : (t : Two) (is : List ℕ) → ((j : ℕ) → holds is j ≡ true → in_two t j ≡ true) → length is ≤ in_part t t.a is + in_part t t.b is
+pub in_either : (t : Two) (is : List ℕ) → ((j : ℕ) → holds is j ≡ true → in_two t j ≡ true) → length is ≤ in_part t t.a is + in_part t t.b is
 in_either t [] within = omega arith
 in_either t (z ∷ zs) within =
     let ih = in_either t zs (λ j h. within j (rest_held z zs j h)) in
