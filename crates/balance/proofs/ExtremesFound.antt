@@ -1,5 +1,5 @@
 -- The first round with the greatest size is the fullest, and the first with the least is the emptiest. Assumes nothing.
-use Rattle.std.proofs.Common.{◌≡◌, ℕ, ◌<◌, ◌≤◌, true, eqb, Contains, Option, List, length, get_or, sym, refl, ap, ◌∙◌, subst, ⊎_elim, arith}
+use Rattle.std.proofs.Common.{◌≡◌, ℕ, ◌<◌, ◌≤◌, eqb, Contains, List, length, get_or, sym, refl, ap, ◌∙◌, subst, ⊎_elim, arith}
 use Rattle.std.specs.List.{position}
 use Rattle.std.proofs.lemmas.Bool.{both_ways, cases_lt, eq-eqb, eqb-true}
 use Rattle.std.proofs.lemmas.List.{get_or_default}
@@ -8,7 +8,7 @@ use Rattle.chains.specs.Partial.{Unless}
 use Rattle.chains.proofs.Lowest.{lowest_of}
 use Rattle.placing.proofs.Found.{position_lowest}
 use Rattle.balance.specs.Sizes.{Greatest, Least, fullest, emptiest}
-use Rattle.balance.proofs.Extremes.{fullest_found, emptiest_found}
+use Rattle.balance.proofs.Extremes.{fullest_found, emptiest_found, fullest_is, emptiest_is}
 
 -- the first place of x is what the first place of x must be, 0 where there is none
 module _ (xs : List ℕ) (x place : ℕ) (some : 1 ≤ length xs → Contains xs x) (is : (c : ℕ) → c < length xs → get_or xs c 0 ≡ x → ((e : ℕ) → e < c → get_or xs e 0 ≡ get_or xs c 0 → ⊥) → place ≡ c) (empty : length xs ≡ 0 → place ≡ 0) where
@@ -40,3 +40,20 @@ least_first xs x bottom =
     first_place xs x _ bottom.one
     (λ c h e first. emptiest_found (length xs) (λ c. get_or xs c 0) c h (λ i l. omega (arith, bottom.all i l)) first)
     (λ none. ap (λ n. emptiest n (λ c. get_or xs c 0)) none)
+
+-- where a fullest round was found there are rounds, and it and the emptiest are among these
+module _ (r : ℕ) (f : ℕ → ℕ) (a : ℕ) (found : (a ≡ fullest r f) × (fullest r f ≡ r → ⊥)) where
+  some_rounds : 1 ≤ r
+  some_rounds = ⊎_elim (λ none. absurd (found.1 (none_there none))) (λ some. some) (cases_lt r 1)
+    where
+      none_there : r < 1 → fullest r f ≡ r
+      none_there none = let e : r ≡ 0 = omega arith in ap (λ n. fullest n f) e ∙ sym e
+
+  pub fullest_there : a < r
+  fullest_there = omega (arith, found.0, (fullest_is r f some_rounds).0)
+
+  pub emptiest_there : (b : ℕ) → b ≡ emptiest r f → b < r
+  emptiest_there b e = omega (arith, (emptiest_is r f some_rounds).0)
+
+  pub emptiest_not_none : emptiest r f ≡ r → ⊥
+  emptiest_not_none e = omega (arith, (emptiest_is r f some_rounds).0)

@@ -1,3 +1,4 @@
+pub mod Counted
 pub mod Extremes
 pub mod ExtremesFound
 pub mod Far

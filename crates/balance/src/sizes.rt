@@ -1,5 +1,5 @@
 // How many meetings each round has, and the fullest and the emptiest.
-ghost use Rattle.std.specs.Prelude.{◌≡◌, ℕ, ◌+◌, ◌-◌, ◌<◌, ◌≤◌, length, ◌==◌, ◌≢◌, slice_index, slice_set, position};
+ghost use Rattle.std.specs.Prelude.{◌≡◌, ℕ, ◌+◌, ◌-◌, ◌<◌, ◌≤◌, length, ◌==◌, ◌≢◌, replicate, slice_index, slice_set, position};
 ghost use Rattle.fewest.specs.Plans.{none};
 ghost use Rattle.chains.specs.Partial.{Unless};
 ghost use Rattle.balance.specs.Sizes.{Greatest, IfUneven, Least, emptiest, fullest, sizes_of};
@@ -7,12 +7,19 @@ ghost use Rattle.balance.specs.Sizes.{Greatest, IfUneven, Least, emptiest, fulle
 use chains::TwoRounds;
 use meetings::Round;
 
+// No meetings in any round.
+fn clear(sizes: &mut [u16])
+    ensures { sizes.new ≡ replicate (length sizes.old) 0 }
+{
+    sizes.fill(0);
+}
+
 // Counts how many meetings each round has; those without a round are not counted.
 pub fn count_sizes(rounds: &[u16], sizes: &mut [u16])
     requires few { length rounds.now ≤ none }
     ensures { sizes.new ≡ sizes_of (length sizes.old) rounds.now }
 {
-    sizes.fill(0);
+    clear(sizes);
     for round in rounds {
         // `as`, since after a `From` it is not proved which entry is written
         let at = *round as usize;
