@@ -1,0 +1,35 @@
+// Evening out the rounds.
+ghost use Rattle.std.specs.Prelude.{◌≡◌, ◌≤◌, length, vec_capacity};
+ghost use Rattle.fewest.specs.Plans.{none};
+ghost use Rattle.chains.specs.Boards.{meetings_on, rounds_on};
+ghost use Rattle.placing.specs.Putting.{placed};
+ghost use Rattle.balance.specs.Evening.{even_out};
+ghost use Rattle.balance.specs.OnBoard.{EvensOn, ExchangedOn, Exchanges, Uneven};
+ghost use Rattle.balance.specs.Statements.{EvenedOut};
+
+use crate::looks::look;
+use crate::ordered::order_two;
+use crate::sizes::{move_one, uneven_rounds};
+use chains::{Board, Found, TwoRounds};
+
+// Exchanges two rounds on the first part that has one more meeting in the first of them. Answers how many meetings were looked
+// at.
+fn exchange_between(
+    board: &mut Board<'_>,
+    rounds: TwoRounds,
+    ordered: &mut Vec<u16>,
+    found: &mut Found,
+) -> u64
+    requires { Exchanges board.old found.old (vec_capacity ordered.old) rounds }
+    ensures exchanged { ExchangedOn board.old board.new found.old found.new rounds result }
+    ensures few { result ≤ none }
+    ensures room { vec_capacity ordered.new ≡ vec_capacity ordered.old }
+{
+    order_two(board, rounds, ordered);
+    let start = look(board, rounds, ordered, found);
+    board.exchange(rounds, &found.list()[start..]);
+    // `as`, since a `usize` has no `From` to a `u64`
+    let looks = found.list().len() as u64;
+    found.clear();
+    looks
+}
