@@ -5,5 +5,6 @@ pub mod FirstPart
 pub mod InOrder
 pub mod LookTurns
 pub mod Looking
+pub mod OneExchange
 pub mod Passed
 pub mod SamePart
