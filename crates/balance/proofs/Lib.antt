@@ -1,3 +1,4 @@
+pub mod EvenedOut
 pub mod Extremes
 pub mod ExtremesFound
 pub mod Far
