@@ -1,3 +1,4 @@
+pub mod EnoughRooms
 pub mod EvenedOut
 pub mod Extremes
 pub mod ExtremesFound
