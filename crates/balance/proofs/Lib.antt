@@ -1,4 +1,6 @@
 pub mod Counted
+pub mod EnoughRooms
+pub mod EvenedOut
 pub mod Extremes
 pub mod ExtremesFound
 pub mod Far
@@ -6,5 +8,6 @@ pub mod FirstPart
 pub mod InOrder
 pub mod LookTurns
 pub mod Looking
+pub mod OneExchange
 pub mod Passed
 pub mod SamePart
