@@ -1,5 +1,6 @@
 pub mod Counted
 pub mod EnoughRooms
+pub mod EvenTurns
 pub mod EvenedOut
 pub mod Extremes
 pub mod ExtremesFound

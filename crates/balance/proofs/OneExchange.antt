@@ -16,11 +16,10 @@ use Rattle.chains.specs.Chains.{two}
 use Rattle.chains.specs.Exchanges.{exchanged, Exchangeable}
 use Rattle.chains.specs.Partial.{Partial, round_of, party_of}
 use Rattle.chains.proofs.Exchange.{exchange_keeps, others_stay, exchange_counts, exchanged_below, exchanged_none, two_sound}
-use Rattle.placing.specs.Putting.{Placed}
 use Rattle.balance.specs.Looking.{look, looks_of}
 use Rattle.balance.specs.Sizes.{size, fullest, emptiest, uneven}
 use Rattle.balance.specs.Evening.{one_exchange}
-use Rattle.balance.specs.Statements.{Exchanged, OneExchange}
+use Rattle.balance.specs.Statements.{OneExchange}
 use Rattle.balance.proofs.Extremes.{fullest_is, emptiest_is, uneven_is}
 use Rattle.balance.proofs.Far.{OneMoved, nearer}
 use Rattle.balance.proofs.Looking.{looked_at, looks_within}
@@ -42,7 +41,7 @@ module _ (r : ℕ) (ms : List Meeting) (xs : List ℕ) (a b : ℕ) (le : r ≤ n
   exchange_plan = exchange_keeps r ms xs a b (look (two ms xs a b)).taken le la lb plan (finds_first r ms xs a b le few plan la lb fuller).1.whole.closed
 
   -- one meeting goes from the one to the other
-  exchange_moves : OneMoved r (size xs) (size (exchanged a b (look (two ms xs a b)).taken xs)) a b
+  pub exchange_moves : OneMoved r (size xs) (size (exchanged a b (look (two ms xs a b)).taken xs)) a b
   exchange_moves =
       let is = (look (two ms xs a b)).taken in
       let found = (finds_first r ms xs a b le few plan la lb fuller).1 in

@@ -1,4 +1,5 @@
 pub mod Evening
+pub mod Lent
 pub mod Looking
 pub mod OnBoard
 pub mod Ordered

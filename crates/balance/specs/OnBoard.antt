@@ -4,12 +4,13 @@ use Rattle.meetings.specs.declared.numbers.Side.TheVariants.{Groups}
 use Rattle.chains.specs.declared.board.Board.{Board}
 use Rattle.chains.specs.declared.found.Found.{Found}
 use Rattle.chains.specs.declared.neighbours.TwoRounds.{TwoRounds}
+use Rattle.chains.specs.declared.shapes.Shape.{Shape}
 use Rattle.chains.specs.Boards.{Becomes, meetings_on, rounds_on, two_on}
 use Rattle.chains.specs.Chains.{Two, Sound, holds, part}
 use Rattle.chains.specs.Exchanges.{Exchangeable, exchanged}
 use Rattle.chains.specs.Finding.{Finds, Unused, among_all, found_in}
 use Rattle.chains.specs.Partial.{Partial}
-use Rattle.chains.specs.Rows.{ManyWithin, WithinRows, parties_of}
+use Rattle.chains.specs.Rows.{ManyWithin, parties_of}
 use Rattle.placing.specs.Putting.{Placed}
 use Rattle.balance.specs.Looking.{Looked, look, looks_of, one_more}
 use Rattle.balance.specs.Sizes.{sizes_of}
@@ -28,15 +29,15 @@ pub record Looks (v w : Found) (l : Looked) (start : ℕ) : Type 0 where
   pub at : start ≡ length l.passed
 
 -- the meetings of two rounds fit into a list with so much room
-abbrev pub RoomForTwo : Board → ℕ → Type 0
-RoomForTwo d room = parties_of Groups d.shape + parties_of Groups d.shape ≤ room
+abbrev pub RoomForTwo : Shape → ℕ → Type 0
+RoomForTwo z room = parties_of Groups z + parties_of Groups z ≤ room
 
 -- two rounds of the board d can be exchanged on the part that looking finds, v has found nothing yet, and there is room
 pub record Exchanges (d : Board) (v : Found) (room : ℕ) (r : TwoRounds) : Type 0 where
   pub sound : Sound (two_on d r)
   pub exchange : Exchangeable (meetings_on d) d.shape (rounds_on d) (look (two_on d r)).taken r.a.0 r.b.0
   pub unused : Unused v (length (meetings_on d))
-  pub enough : RoomForTwo d room
+  pub enough : RoomForTwo d.shape room
 
 -- the board d becomes e: two rounds are exchanged on the part that looking finds; so many looks are counted
 pub record ExchangedOn (d e : Board) (v w : Found) (r : TwoRounds) (counted : ℕ) : Type 0 where
@@ -51,7 +52,7 @@ pub record Uneven (d : Board) (ns : List ℕ) (v : Found) (room : ℕ) : Type 0 
   pub within : ManyWithin d.shape (length ns)
   pub counted : ns ≡ sizes_of (length ns) (rounds_on d)
   pub unused : Unused v (length (meetings_on d))
-  pub enough : RoomForTwo d room
+  pub enough : RoomForTwo d.shape room
 
 -- the board d becomes e, with the rounds that the rule gives, and the numbers are their sizes; so many looks are counted, and what
 -- was found is forgotten

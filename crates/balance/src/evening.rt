@@ -33,3 +33,25 @@ fn exchange_between(
     found.clear();
     looks
 }
+
+// Evens the rounds out: while the fullest has at least two meetings more than the emptiest, one goes from the one to the other.
+// There are as many rounds as sizes, which are kept. All meetings that had a round have one still, and no two rounds differ by
+// more than one in the end. Answers the looks, one for each meeting of a part looked at.
+pub fn even_out(
+    board: &mut Board<'_>,
+    sizes: &mut [u16],
+    ordered: &mut Vec<u16>,
+    found: &mut Found,
+) -> u64
+    requires { Uneven board.old sizes.old found.old (vec_capacity ordered.old) }
+    ensures rule { EvensOn board.old board.new sizes.old sizes.new found.old found.new (even_out (length sizes.old) (meetings_on board.old) (placed (rounds_on board.old) 0)) result }
+    ensures evened { EvenedOut board.old.shape.groups board.old.shape.stations (length sizes.old) (meetings_on board.old) (placed (rounds_on board.old) 0) (placed (rounds_on board.new) result) }
+    ensures room { vec_capacity ordered.new ≡ vec_capacity ordered.old }
+{
+    let mut looks = 0;
+    while let Some(rounds) = uneven_rounds(sizes) {
+        looks += exchange_between(board, rounds, ordered, found);
+        move_one(sizes, rounds);
+    }
+    looks
+}

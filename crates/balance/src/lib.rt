@@ -4,4 +4,9 @@
 mod evening;
 mod looks;
 mod ordered;
+mod planned;
 mod sizes;
+
+pub use evening::even_out;
+pub use planned::Planned;
+pub use sizes::count_sizes;
