@@ -1,6 +1,6 @@
 -- Evening out: each exchange makes the rounds one step nearer to even, so the steps allowed are just those that are left, and
 -- rounds that are no step away are even. Assumes nothing.
-use Rattle.std.proofs.Common.{◌≡◌, ℕ, zero, suc, ◌+◌, ◌*◌, ◌<◌, ◌≤◌, true, false, cond, List, length, refl, sym, ap, ◌∙◌, ⊎_elim, suc-mul, arith}
+use Rattle.std.proofs.Common.{◌≡◌, ℕ, zero, suc, ◌+◌, ◌*◌, ◌≤◌, true, false, cond, List, length, refl, sym, ap, ◌∙◌, ⊎_elim, suc-mul, arith}
 use Rattle.std.proofs.lemmas.Bool.{cases_Bool, cond_both}
 use Rattle.meetings.specs.declared.numbers.Meeting.{Meeting}
 use Rattle.meetings.specs.Lists.{Exist}
@@ -9,7 +9,7 @@ use Rattle.chains.specs.Partial.{Partial}
 use Rattle.placing.specs.Putting.{Placed}
 use Rattle.balance.specs.Sizes.{size, fullest, emptiest, uneven, far}
 use Rattle.balance.specs.Evening.{one_exchange, exchanges, even_out}
-use Rattle.balance.specs.Statements.{Exchanged, EvenedOut, Ends, EvensOut}
+use Rattle.balance.specs.Statements.{EvenedOut, Ends, EvensOut}
 use Rattle.balance.proofs.Extremes.{fullest_is, emptiest_is, even_is}
 use Rattle.balance.proofs.OneExchange.{one_exchange_is, round_short, some_rounds}
 

@@ -16,11 +16,10 @@ use Rattle.chains.specs.Chains.{two}
 use Rattle.chains.specs.Exchanges.{exchanged, Exchangeable}
 use Rattle.chains.specs.Partial.{Partial, round_of, party_of}
 use Rattle.chains.proofs.Exchange.{exchange_keeps, others_stay, exchange_counts, exchanged_below, exchanged_none, two_sound}
-use Rattle.placing.specs.Putting.{Placed}
 use Rattle.balance.specs.Looking.{look, looks_of}
 use Rattle.balance.specs.Sizes.{size, fullest, emptiest, uneven}
 use Rattle.balance.specs.Evening.{one_exchange}
-use Rattle.balance.specs.Statements.{Exchanged, OneExchange}
+use Rattle.balance.specs.Statements.{OneExchange}
 use Rattle.balance.proofs.Extremes.{fullest_is, emptiest_is, uneven_is}
 use Rattle.balance.proofs.Far.{OneMoved, nearer}
 use Rattle.balance.proofs.Looking.{looked_at, looks_within}
