@@ -6,7 +6,12 @@ mod looks;
 mod ordered;
 mod planned;
 mod sizes;
+mod theorems;
 
 pub use evening::even_out;
 pub use planned::Planned;
 pub use sizes::count_sizes;
+pub use theorems::{
+    evening_out_ends, looking_finds_the_first, one_exchange_is_nearer, part_with_one_more,
+    rounds_are_enough, rounds_are_evened_out, rounds_can_be_even,
+};
