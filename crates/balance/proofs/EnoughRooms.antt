@@ -25,7 +25,7 @@ pub record Planned (d : Contents) (r : ℕ) (xs : List ℕ) : Type 0 where
   pub even : Evened r xs
 
 -- in a plan each meeting has a round
-as_partial : (r : ℕ) (ms : List Meeting) (xs : List ℕ) → Plan r ms xs → Partial r ms xs
+pub as_partial : (r : ℕ) (ms : List Meeting) (xs : List ℕ) → Plan r ms xs → Partial r ms xs
 as_partial r ms xs plan = record { each = plan.each; round = λ i h. inr (plan.round i h); apart = plan.apart }
 
 -- A WHOLE PLAN is one, where so many rounds suffice

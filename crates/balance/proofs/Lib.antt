@@ -12,3 +12,4 @@ pub mod Looking
 pub mod OneExchange
 pub mod Passed
 pub mod SamePart
+pub mod WholePlan

@@ -1,5 +1,5 @@
 // Evening out the rounds.
-ghost use Rattle.std.specs.Prelude.{◌≡◌, ◌≤◌, length, vec_capacity};
+ghost use Rattle.std.specs.Prelude.{◌≡◌, ◌*◌, ◌≤◌, length, vec_capacity};
 ghost use Rattle.fewest.specs.Plans.{none};
 ghost use Rattle.chains.specs.Boards.{meetings_on, rounds_on};
 ghost use Rattle.placing.specs.Putting.{placed};
@@ -46,6 +46,7 @@ pub fn even_out(
     requires { Uneven board.old sizes.old found.old (vec_capacity ordered.old) }
     ensures rule { EvensOn board.old board.new sizes.old sizes.new found.old found.new (even_out (length sizes.old) (meetings_on board.old) (placed (rounds_on board.old) 0)) result }
     ensures evened { EvenedOut board.old.shape.groups board.old.shape.stations (length sizes.old) (meetings_on board.old) (placed (rounds_on board.old) 0) (placed (rounds_on board.new) result) }
+    ensures few { result ≤ none * none }
     ensures room { vec_capacity ordered.new ≡ vec_capacity ordered.old }
 {
     let mut looks = 0;

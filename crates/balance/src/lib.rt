@@ -5,6 +5,8 @@ mod evening;
 mod looks;
 mod ordered;
 mod planned;
+mod planning;
+mod scratch;
 mod sizes;
 mod theorems;
 

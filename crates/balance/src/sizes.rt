@@ -1,10 +1,11 @@
 // How many meetings each round has, and the fullest and the emptiest.
 ghost use Rattle.std.specs.Prelude.{◌≡◌, ℕ, ◌+◌, ◌-◌, ◌<◌, ◌≤◌, length, ◌==◌, ◌≢◌, replicate, slice_index, slice_set, position};
 ghost use Rattle.fewest.specs.Plans.{none};
+ghost use Rattle.chains.specs.Boards.{rounds_on};
 ghost use Rattle.chains.specs.Partial.{Unless};
 ghost use Rattle.balance.specs.Sizes.{Greatest, IfUneven, Least, emptiest, fullest, sizes_of};
 
-use chains::TwoRounds;
+use chains::{Board, TwoRounds};
 use meetings::Round;
 
 // No meetings in any round.
@@ -15,7 +16,7 @@ fn clear(sizes: &mut [u16])
 }
 
 // Counts how many meetings each round has; those without a round are not counted.
-pub fn count_sizes(rounds: &[u16], sizes: &mut [u16])
+fn count_rounds(rounds: &[u16], sizes: &mut [u16])
     requires few { length rounds.now ≤ none }
     ensures { sizes.new ≡ sizes_of (length sizes.old) rounds.now }
 {
@@ -27,6 +28,13 @@ pub fn count_sizes(rounds: &[u16], sizes: &mut [u16])
             sizes[at] += 1;
         }
     }
+}
+
+// Counts how many meetings of a board each of these rounds has.
+pub fn count_sizes(board: &Board<'_>, sizes: &mut [u16])
+    ensures { sizes.new ≡ sizes_of (length sizes.old) (rounds_on board.now) }
+{
+    count_rounds(board.rounds, sizes);
 }
 
 // The first round of this size.

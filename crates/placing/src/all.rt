@@ -1,5 +1,5 @@
 // Putting in all meetings of a list.
-ghost use Rattle.std.specs.Prelude.{◌≡◌, ℕ, ◌<◌, ◌≤◌, length, replicate};
+ghost use Rattle.std.specs.Prelude.{◌≡◌, ℕ, ◌+◌, ◌*◌, ◌<◌, ◌≤◌, length, replicate};
 ghost use Rattle.fewest.specs.Plans.{none};
 ghost use Rattle.chains.specs.Boards.{meetings_on, rounds_on};
 ghost use Rattle.chains.specs.Finding.{Unused};
@@ -21,6 +21,7 @@ pub fn put_in_all(board: &mut Board<'_>, rounds: u16, found: &mut Found) -> u64
     requires unused { Unused found.old (length (meetings_on board.old)) }
     ensures rule { PutsOn board.old board.new found.old found.new (put_all rounds (meetings_on board.old)) result }
     ensures placed { PlacedAll board.old.shape.groups board.old.shape.stations rounds (meetings_on board.old) (placed (rounds_on board.new) result) }
+    ensures few { result ≤ none * (1 + none) }
 {
     let mut looks = 0;
     // by their numbers, which is what a plan knows meetings by; `as`, since it is proved that they fit

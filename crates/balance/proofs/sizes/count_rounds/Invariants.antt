@@ -1,6 +1,6 @@
 use Rattle.std.proofs.Common.{◌≡◌, length, take}
 use Rattle.balance.specs.Sizes.{sizes_of}
-use Rattle.balance.proofs.sizes.count_sizes.Given as goal
+use Rattle.balance.proofs.sizes.count_rounds.Given as goal
 
 -- the meetings so far are counted
 abbrev pub invariant-loop-round : goal.invariant-loop-round

@@ -3,8 +3,8 @@ use Rattle.std.proofs.Common.{[], length, sym, ap, ◌∙◌, arith}
 use Rattle.std.proofs.lemmas.List.{length-replicate}
 use Rattle.balance.specs.Sizes.{sizes_of}
 use Rattle.balance.proofs.Counted.{counted_more, counted_same, counted_front, none_counted}
-use Rattle.balance.proofs.sizes.count_sizes.Goals as goal
-use Rattle.balance.proofs.sizes.count_sizes.Goals.{then-at-sizes, else-at-sizes}
+use Rattle.balance.proofs.sizes.count_rounds.Goals as goal
+use Rattle.balance.proofs.sizes.count_rounds.Goals.{then-at-sizes, else-at-sizes}
 
 pub loop-round-init : goal.loop-round-init
 loop-round-init c =
