@@ -30,6 +30,7 @@ as_partial r ms xs plan = record { each = plan.each; round = λ i h. inr (plan.r
 
 -- A WHOLE PLAN is one, where so many rounds suffice
 pub planned_all : (d : Contents) (r : ℕ) → Exist d.groups d.stations d.meetings → length d.meetings ≤ none → r ≤ none → Suffices d r → Planned d r (plan_all r d.meetings).rounds
+unfolding plan_all
 planned_all d r exist few le enough =
     let before = (puts_all d.groups d.stations r d.meetings exist few le (none_busier d r exist enough.0)).plan in
     let after = evens_out d.groups d.stations r d.meetings (put_all r d.meetings) exist le few (as_partial r d.meetings (put_all r d.meetings).rounds before) in

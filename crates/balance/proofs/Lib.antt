@@ -1,5 +1,7 @@
 pub mod Counted
 pub mod EnoughRooms
+pub mod DayPlanned
+pub mod Entering
 pub mod EvenTurns
 pub mod EvenedOut
 pub mod Extremes
@@ -7,6 +9,7 @@ pub mod ExtremesFound
 pub mod Far
 pub mod FirstPart
 pub mod InOrder
+pub mod LentEnough
 pub mod LookTurns
 pub mod Looking
 pub mod OneExchange

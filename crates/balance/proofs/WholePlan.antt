@@ -31,6 +31,11 @@ looks_added r ms (suc left) xs n m =
 pub even_out_looks : (r : ℕ) (ms : List Meeting) (p : Placed) → even_out r ms p ≡ with_looks p.looks (even_out r ms (placed p.rounds 0))
 even_out_looks r ms p = let none_more : p.looks ≡ p.looks + 0 = omega arith in ap (λ l. even_out r ms (placed p.rounds l)) none_more ∙ looks_added r ms _ p.rounds p.looks 0
 
+-- a whole plan is that of evening out, from no looks on, with those of putting in added
+pub plan_is : (r : ℕ) (ms : List Meeting) → plan_all r ms ≡ with_looks (put_all r ms).looks (even_out r ms (placed (put_all r ms).rounds 0))
+unfolding plan_all
+plan_is r ms = even_out_looks r ms (put_all r ms)
+
 -- what was put in on one board and evened out on the next is the whole plan
 module _ (d e f : Board) (v w u : Found) (ns ns' : List ℕ) (r put l : ℕ) (puts : PutsOn d e v w (put_all r (meetings_on d)) put) (evens : EvensOn e f ns ns' w u (even_out (length ns) (meetings_on e) (placed (rounds_on e) 0)) l) (long : length ns ≡ r) where
   evened_is : even_out (length ns) (meetings_on e) (placed (rounds_on e) 0) ≡ even_out r (meetings_on d) (placed (put_all r (meetings_on d)).rounds 0)
@@ -41,13 +46,10 @@ module _ (d e f : Board) (v w u : Found) (ns ns' : List ℕ) (r put l : ℕ) (pu
 
   pub plan_rounds : Becomes d f (plan_all r (meetings_on d)).rounds
   plan_rounds =
-      becomes_then d e f _ _ _ puts.board evens.board (ap (λ (p : Placed). p.rounds) (evened_is ∙ sym (unlooked r (meetings_on d))))
-    where
-      unlooked : (r : ℕ) (ms : List Meeting) → placed (plan_all r ms).rounds (even_out r ms (placed (put_all r ms).rounds 0)).looks ≡ even_out r ms (placed (put_all r ms).rounds 0)
-      unlooked r ms = ap (λ (p : Placed). placed p.rounds (even_out r ms (placed (put_all r ms).rounds 0)).looks) (even_out_looks r ms (put_all r ms))
+      becomes_then d e f _ _ _ puts.board evens.board (ap (λ (p : Placed). p.rounds) evened_is ∙ ap (λ (p : Placed). p.rounds) (sym (plan_is r (meetings_on d))))
 
   pub plan_looks : put + l ≡ (plan_all r (meetings_on d)).looks
   plan_looks =
       ap (λ n. n + l) puts.looks
       ∙ ap (λ n. (put_all r (meetings_on d)).looks + n) (evens.looks ∙ ap (λ (p : Placed). p.looks) evened_is)
-      ∙ ap (λ (p : Placed). p.looks) (sym (even_out_looks r (meetings_on d) (put_all r (meetings_on d))))
+      ∙ ap (λ (p : Placed). p.looks) (sym (plan_is r (meetings_on d)))

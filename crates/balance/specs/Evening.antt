@@ -30,5 +30,5 @@ abbrev pub even_out : ℕ → List Meeting → Placed → Placed
 even_out r ms p = exchanges r ms (far r (size p.rounds)) p
 
 -- A WHOLE PLAN: all meetings are put in, and then the rounds are evened out
-abbrev pub plan_all : ℕ → List Meeting → Placed
+unfoldable pub plan_all : ℕ → List Meeting → Placed
 plan_all r ms = even_out r ms (put_all r ms)

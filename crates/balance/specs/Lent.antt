@@ -1,6 +1,7 @@
 -- What the planning call answers, and what the lent slices hold after it. Assumes nothing.
 use Rattle.std.specs.Prelude.{◌≡◌, ℕ, ◌+◌, ◌*◌, ◌≤◌, List, ◌++◌, length, take, drop}
 use Rattle.meetings.specs.declared.numbers.Meeting.{Meeting}
+use Rattle.meetings.specs.Bytes.{read_list}
 use Rattle.meetings.specs.Lists.{Contents}
 use Rattle.meetings.specs.Refusals.{Outcome, accepted, then}
 use Rattle.fewest.specs.Plans.{Plan, Rooms}
@@ -64,3 +65,7 @@ pub record PlansDay (d : Contents) (xs : List ℕ) (p : Planned) : Type 0 where
   pub even : Evened p.rounds (take (length d.meetings) xs)
   pub no_fewer : LeastOfPlans d p.rounds
   pub looks : p.looks ≤ looks_at_most d
+
+-- what holds of the list that the bytes say, if they say one
+abbrev pub OfBytes : List ℕ → (Contents → Type 0) → Type 0
+OfBytes bytes P = (d : Contents) → read_list bytes ≡ accepted d → P d

@@ -1,0 +1,51 @@
+-- The rule's plan of a proper list keeps the promise: the fewest rounds suffice, so they hold a plan that is within the rooms and
+-- even, and no plan has fewer. Assumes nothing.
+use Rattle.std.proofs.Common.{◌≡◌, ℕ, ◌≤◌, List, ◌++◌, length, refl, ap, arith}
+use Rattle.std.proofs.lemmas.List.{take_at}
+use Rattle.meetings.specs.declared.list.MeetingList.{MeetingList}
+use Rattle.meetings.specs.declared.numbers.Meeting.{Meeting}
+use Rattle.meetings.specs.Held.{contents}
+use Rattle.meetings.specs.Lists.{Contents, Proper}
+use Rattle.meetings.proofs.Holds.{proper}
+use Rattle.fewest.specs.Plans.{none}
+use Rattle.fewest.specs.Rounds.{fewest}
+use Rattle.fewest.proofs.NoFewer.{fewest_suffices, no_fewer_said}
+use Rattle.placing.specs.Putting.{placed, put_all}
+use Rattle.placing.proofs.PutAll.{none_busier, puts_all}
+use Rattle.balance.specs.Evening.{plan_all}
+use Rattle.balance.specs.Lent.{PlansDay, looks_at_most, plan_of}
+use Rattle.balance.proofs.EnoughRooms.{as_partial, planned_all}
+use Rattle.balance.proofs.EvenedOut.{evens_out}
+use Rattle.balance.proofs.LentEnough.{fewest_below}
+use Rattle.balance.proofs.WholePlan.{plan_is}
+
+module _ (d : Contents) (p : Proper d) where
+  few : length d.meetings ≤ none
+  few = omega (arith, p.few)
+
+  le : fewest d ≤ none
+  le = omega (arith, fewest_below d p, few)
+
+  -- the looks of putting in, and those of evening out
+  looks_bounded : (plan_of d).looks ≤ looks_at_most d
+  looks_bounded =
+      let r = fewest d in
+      let put = puts_all d.groups d.stations r d.meetings p.exist few le (none_busier d r p.exist (fewest_suffices d p.rooms_within.0).0) in
+      let even = evens_out d.groups d.stations r d.meetings (placed (put_all r d.meetings).rounds 0) p.exist le few (as_partial r d.meetings (put_all r d.meetings).rounds put.plan) in
+      omega (arith, ap (λ q. q.looks) (plan_is r d.meetings), put.looks, even.looks)
+
+  pub plans_day : (rest : List ℕ) → PlansDay d ((plan_of d).rounds ++ rest) (record { rounds = fewest d; looks = (plan_of d).looks })
+  plans_day rest =
+      let all = planned_all d (fewest d) p.exist few le (fewest_suffices d p.rooms_within.0) in
+      let front = take_at (plan_of d).rounds rest (length d.meetings) all.plan.each in
+      record {
+        plan = rw front all.plan;
+        within = rw front all.within;
+        even = rw front all.even;
+        no_fewer = no_fewer_said d (fewest d) p.rooms_within.0 refl;
+        looks = looks_bounded;
+      }
+
+-- the same of what was planned for a list that was read
+pub day_planned : (l : MeetingList) (ms : List Meeting) (r looks : ℕ) (xs rest : List ℕ) → ms ≡ (contents l).meetings → r ≡ fewest (contents l) → xs ≡ (plan_all r ms).rounds → looks ≡ (plan_all r ms).looks → PlansDay (contents l) (xs ++ rest) (record { rounds = r; looks = looks })
+day_planned l ms r looks xs rest same is rounds counted = rw (rounds, counted, same, is) (plans_day (contents l) (proper l) rest)
