@@ -15,8 +15,8 @@ fn clear(sizes: &mut [u16])
     sizes.fill(0);
 }
 
-// Counts how many meetings each round has; those without a round are not counted.
-fn count_rounds(rounds: &[u16], sizes: &mut [u16])
+// Counts how many meetings each of these rounds has; a meeting without one of them is not counted.
+pub fn count_rounds(rounds: &[u16], sizes: &mut [u16])
     requires few { length rounds.now ≤ none }
     ensures { sizes.new ≡ sizes_of (length sizes.old) rounds.now }
 {
@@ -30,7 +30,7 @@ fn count_rounds(rounds: &[u16], sizes: &mut [u16])
     }
 }
 
-// Counts how many meetings of a board each of these rounds has.
+// The same on a board.
 pub fn count_sizes(board: &Board<'_>, sizes: &mut [u16])
     ensures { sizes.new ≡ sizes_of (length sizes.old) (rounds_on board.now) }
 {

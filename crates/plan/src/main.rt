@@ -4,8 +4,8 @@
 mod making;
 mod report;
 
+use balance::Planned;
 use making::report_of;
-use placing::Planned;
 use report::Report;
 use std::io::Read;
 use std::process::ExitCode;
@@ -13,8 +13,9 @@ use std::{env, fs, io};
 
 const USAGE: &str = "usage: plan DAY
 
-Prints a plan with the fewest rounds: their number and the looks that making it took, and the round of each meeting.
-Rooms count for the number of rounds; the plan does not keep to them yet, and a round may hold too many meetings for them.
+Prints a plan with the fewest rounds: their number and the looks that making it took, how many meetings each round has, and
+the round of each meeting. Nobody is at two meetings in a round, no round has more meetings than there are rooms, and no two
+rounds differ by more than one meeting.
 DAY is the file with the day's list of meetings; - reads it from standard input.
 A list that breaks a rule is told of in one line, 'refused N at P', with exit status 1.";
 
@@ -27,10 +28,13 @@ fn bytes_of(rt: &HostRuntime, path: &str) -> io::Result<Vec<u8>> {
     Ok(bytes)
 }
 
-// The number of rounds and of looks, and then the round of each meeting.
+// The number of rounds and of looks, how many meetings each round has, and the round of each meeting.
 fn print_report(rt: &HostRuntime, report: &Report) -> io::Result<()> {
     let Planned { rounds, looks } = report.planned;
     println!(rt; "rounds {rounds} looks {looks}")?;
+    for (round, meetings) in report.of_rounds.iter().enumerate() {
+        println!(rt; "round {round} meetings {meetings}")?;
+    }
     for (meeting, round) in report.of_meetings.iter().enumerate() {
         println!(rt; "meeting {meeting} round {round}")?;
     }

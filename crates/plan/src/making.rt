@@ -7,14 +7,14 @@ ghost use Rattle.fewest.specs.Rounds.{fewest};
 ghost use Rattle.plan.specs.Reports.{ToldBy, told, told_of};
 
 use crate::report::{Report, nothing};
+use balance::{Planned, count_rounds, plan};
 use fewest::fewest_rounds;
 use meetings::{MeetingList, Refusal};
-use placing::{Planned, place_all};
 use std::alloc::Global;
 
-// Places all meetings in slices that are lent just as long as the number of rounds asks for, so that none of them is refused.
-// A function of its own: that only memory can be wanting is proved of this call by itself.
-fn place_exactly(
+// Plans in slices that are lent just as long as the number of rounds asks for, so that none of them is refused. A function of its
+// own: that only memory can be wanting is proved of this call by itself.
+fn plan_exactly(
     heap: Global,
     list: &MeetingList,
     of_meetings: &mut [u16],
@@ -26,7 +26,7 @@ fn place_exactly(
     requires stations { length station_rows.old ≡ (contents list.now).stations * fewest (contents list.now) }
     ensures { IfMemory result (λ p. ToldBy (contents list.now) p of_meetings.new) }
 {
-    place_all(heap, list, of_meetings, group_rows, station_rows)
+    plan(heap, list, of_meetings, group_rows, station_rows)
 }
 
 // The report of a list. The rows are lent just as long as the number of rounds asks for, so only memory can be wanting.
@@ -37,15 +37,18 @@ fn report_on(heap: Global, list: &MeetingList) -> Result<Report, Refusal>
     let mut of_meetings = nothing(heap, list.meetings().len())?;
     let mut group_rows = nothing(heap, usize::from(list.groups()) * rounds)?;
     let mut station_rows = nothing(heap, usize::from(list.stations()) * rounds)?;
-    let planned = place_exactly(
+    let planned = plan_exactly(
         heap,
         list,
         &mut of_meetings,
         &mut group_rows,
         &mut station_rows,
     )?;
+    let mut of_rounds = nothing(heap, rounds)?;
+    count_rounds(&of_meetings, &mut of_rounds);
     Ok(Report {
         planned,
+        of_rounds,
         of_meetings,
     })
 }

@@ -1,17 +1,18 @@
-// What the program tells of a day, and how it is made.
+// What the program tells of a day.
 ghost use Rattle.std.specs.Prelude.{◌≡◌, replicate};
 ghost use Rattle.fewest.specs.Plans.{none};
 ghost use Rattle.meetings.specs.Refusals.{IfMemory};
 
+use balance::Planned;
 use chains::NONE;
 use meetings::Refusal;
-use placing::Planned;
 use std::alloc::Global;
 
-// What planning answers, and the round of each meeting.
+// What planning answers, how many meetings each round has, and the round of each meeting.
 #[derive(Drop)]
 pub(crate) struct Report {
     pub(crate) planned: Planned,
+    pub(crate) of_rounds: Vec<u16>,
     pub(crate) of_meetings: Vec<u16>,
 }
 

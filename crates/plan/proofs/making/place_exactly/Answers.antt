@@ -1,6 +1,0 @@
-use Rattle.plan.proofs.Telling.{told_exactly}
-use Rattle.plan.proofs.making.place_exactly.Goals as goal
-
-pub returns : goal.returns
-returns c =
-    told_exactly c.args.list.now c.args.of_meetings.now _ c.args.group_rows.now _ c.args.station_rows.now _ c.requires.each c.requires.groups c.requires.stations _ c.place_all.ensures.answer c.place_all.ensures.lent
