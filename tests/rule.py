@@ -45,6 +45,38 @@ def put_in(meetings, rounds, many, new):
     return 1 + len(chain)
 
 
+def parts(meetings, rounds, a, b):
+    """The parts of two rounds, in the order of their lowest meeting: lists of the meetings that groups and stations link."""
+    left = [i for i, round in enumerate(rounds) if round in (a, b)]
+    while left:
+        part, todo = [], [left[0]]
+        while todo:
+            i = todo.pop()
+            if i in left:
+                left.remove(i)
+                part.append(i)
+                todo += [j for j in left if meetings[i][0] == meetings[j][0] or meetings[i][1] == meetings[j][1]]
+        yield part
+
+
+def even_out(meetings, rounds, many):
+    """Exchanges parts until no two rounds differ by more than one, and answers the looks."""
+    looks = 0
+    while many:
+        sizes = [rounds.count(c) for c in range(many)]
+        a, b = sizes.index(max(sizes)), sizes.index(min(sizes))
+        if sizes[a] - sizes[b] < 2:
+            break
+        for part in parts(meetings, rounds, a, b):
+            looks += len(part)
+            of_part = [rounds[i] for i in part]
+            if of_part.count(a) == of_part.count(b) + 1:
+                break
+        for i in part:
+            rounds[i] = a + b - rounds[i]
+    return looks
+
+
 def main():
     with open(sys.argv[1], "rb") as day:
         data = day.read()
@@ -53,7 +85,10 @@ def main():
     many = fewest(groups, stations, rooms, meetings)
     rounds = [None] * len(meetings)
     looks = sum(put_in(meetings, rounds, many, i) for i in range(len(meetings)))
+    looks += even_out(meetings, rounds, many)
     print(f"rounds {many} looks {looks}")
+    for c in range(many):
+        print(f"round {c} meetings {rounds.count(c)}")
     for i, round in enumerate(rounds):
         print(f"meeting {i} round {round}")
 
