@@ -10,7 +10,7 @@ use Rattle.fewest.specs.Plans.{in_round}
 use Rattle.balance.specs.Sizes.{size, sizes_of}
 use Rattle.balance.proofs.Far.{OneMoved}
 
-pub sizes_long : (r : ℕ) (xs : List ℕ) → length (sizes_of r xs) ≡ r
+sizes_long : (r : ℕ) (xs : List ℕ) → length (sizes_of r xs) ≡ r
 sizes_long r xs = length-map-range_with_len (size xs) 0 r
 
 pub size_at : (r : ℕ) (xs : List ℕ) (c d : ℕ) → c < r → get_or (sizes_of r xs) c d ≡ in_round c xs
@@ -85,7 +85,7 @@ moved_sizes r xs ys ns a b e moved =
         ⊎_elim
         (λ at_b. ap (λ j. get_or (set ms b (get_or ns b 0 + 1)) j 0) at_b ∙ get_or-set_same ms b _ 0 (omega (arith, length-set ns a (get_or ns a 0 - 1), long, moved.other)) ∙ omega (arith, was b moved.other, moved.given) ∙ ap (λ j. in_round j ys) (sym at_b))
         (λ not_b. get_or-set_other ms b c _ 0 not_b ∙ ⊎_elim
-            (λ at_a. ap (λ j. get_or ms j 0) at_a ∙ get_or-set_same ns a _ 0 (omega (arith, long, moved.one)) ∙ omega (arith, was a moved.one, moved.taken) ∙ ap (λ j. in_round j ys) (sym at_a))
-            (λ not_a. get_or-set_other ns a c _ 0 not_a ∙ was c l ∙ sym (moved.rest c not_a not_b))
-            (cases_eq c a))
+        (λ at_a. ap (λ j. get_or ms j 0) at_a ∙ get_or-set_same ns a _ 0 (omega (arith, long, moved.one)) ∙ omega (arith, was a moved.one, moved.taken) ∙ ap (λ j. in_round j ys) (sym at_a))
+        (λ not_a. get_or-set_other ns a c _ 0 not_a ∙ was c l ∙ sym (moved.rest c not_a not_b))
+        (cases_eq c a))
         (cases_eq c b)

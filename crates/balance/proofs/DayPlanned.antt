@@ -34,7 +34,7 @@ module _ (d : Contents) (p : Proper d) where
       let even = evens_out d.groups d.stations r d.meetings (placed (put_all r d.meetings).rounds 0) p.exist le few (as_partial r d.meetings (put_all r d.meetings).rounds put.plan) in
       omega (arith, ap (λ q. q.looks) (plan_is r d.meetings), put.looks, even.looks)
 
-  pub plans_day : (rest : List ℕ) → PlansDay d ((plan_of d).rounds ++ rest) (record { rounds = fewest d; looks = (plan_of d).looks })
+  plans_day : (rest : List ℕ) → PlansDay d ((plan_of d).rounds ++ rest) (record { rounds = fewest d; looks = (plan_of d).looks })
   plans_day rest =
       let all = planned_all d (fewest d) p.exist few le (fewest_suffices d p.rooms_within.0) in
       let front = take_at (plan_of d).rounds rest (length d.meetings) all.plan.each in

@@ -61,14 +61,14 @@ module _ (xs ns : List ℕ) (e : ns ≡ sizes_of (length ns) xs) where
   each : (c : ℕ) → c < length ns → get_or ns c 0 ≡ size xs c
   each c h = ap (λ m. get_or m c 0) e ∙ size_at (length ns) xs c 0 h
 
-  pub extremes_of : (t : TwoRounds) → Extremes (length ns) (λ c. get_or ns c 0) t → Extremes (length ns) (size xs) t
+  extremes_of : (t : TwoRounds) → Extremes (length ns) (λ c. get_or ns c 0) t → Extremes (length ns) (size xs) t
   extremes_of t ends = record {
     fullest = ends.fullest ∙ fullest_ext (length ns) (λ c. get_or ns c 0) (size xs) each;
     emptiest = ends.emptiest ∙ emptiest_ext (length ns) (λ c. get_or ns c 0) (size xs) each;
     uneven = sym (uneven_ext (length ns) (λ c. get_or ns c 0) (size xs) (some_rounds (length ns) (λ c. get_or ns c 0) ends.uneven) each) ∙ ends.uneven;
   }
 
-  pub even_of : uneven (length ns) (λ c. get_or ns c 0) ≡ false → uneven (length ns) (size xs) ≡ false
+  even_of : uneven (length ns) (λ c. get_or ns c 0) ≡ false → uneven (length ns) (size xs) ≡ false
   even_of even =
       ⊎_elim
       (λ apart. absurd (both_ways _ even (uneven_ext (length ns) (λ c. get_or ns c 0) (size xs) (some_rounds (length ns) (size xs) apart) each ∙ apart)))
@@ -77,24 +77,24 @@ module _ (xs ns : List ℕ) (e : ns ≡ sizes_of (length ns) xs) where
 
 -- the fullest and the emptiest of the rounds of a board
 module _ (e : Board) (ns : List ℕ) (w : Found) (room : ℕ) (ready : Uneven e ns w room) (t : TwoRounds) (ends : Extremes (length ns) (λ c. get_or ns c 0) t) where
-  pub of_rounds : Extremes (length ns) (size (rounds_on e)) t
+  of_rounds : Extremes (length ns) (size (rounds_on e)) t
   of_rounds = extremes_of (rounds_on e) ns ready.counted t ends
 
   some : 1 ≤ length ns
   some = some_rounds (length ns) (size (rounds_on e)) of_rounds.uneven
 
   -- both are rounds
-  pub a_below : t.a.0 < length ns
+  a_below : t.a.0 < length ns
   a_below = omega (arith, of_rounds.fullest, (fullest_is (length ns) (size (rounds_on e)) some).0)
 
   pub b_below : t.b.0 < length ns
   b_below = omega (arith, of_rounds.emptiest, (emptiest_is (length ns) (size (rounds_on e)) some).0)
 
   -- the one has two meetings more than the other
-  pub two_more : get_or ns t.b.0 0 + 2 ≤ get_or ns t.a.0 0
+  two_more : get_or ns t.b.0 0 + 2 ≤ get_or ns t.a.0 0
   two_more = omega (arith, ap (λ c. get_or ns c 0) ends.fullest, ap (λ c. get_or ns c 0) ends.emptiest, uneven_is (length ns) (λ c. get_or ns c 0) ends.uneven)
 
-  pub two_differ : t.a.0 ≡ t.b.0 → ⊥
+  two_differ : t.a.0 ≡ t.b.0 → ⊥
   two_differ same = omega (arith, two_more, ap (λ c. get_or ns c 0) same)
 
   -- and is a number that fits

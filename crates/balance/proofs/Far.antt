@@ -71,7 +71,7 @@ among a b c one other rest = ⊎_elim one (λ u. ⊎_elim other (λ v. rest u v)
 
 module _ (r : ℕ) (f g : ℕ → ℕ) (a b : ℕ) (moved : OneMoved r f g a b) where
   -- there are as many meetings as before
-  pub total_kept : total g r ≡ total f r
+  total_kept : total g r ≡ total f r
   total_kept =
       let all = total_ext (λ c. g c + one_if (eqb c a)) (λ c. f c + one_if (eqb c b)) r (λ c k. each c) in
       let before = total_add f (λ c. one_if (eqb c b)) r in
@@ -128,9 +128,9 @@ module _ (r : ℕ) (f g : ℕ → ℕ) (a b : ℕ) (moved : OneMoved r f g a b) 
   one_nearer h l near most least apart low high =
       ⊎_elim
       (λ above. ⊎_elim
-          (λ below. omega (arith, above_falls h above low, below_falls l high below))
-          (λ from. let all = λ (c : ℕ) (k : c < r). trans_le from (least c k) in omega (arith, above_falls h above low, none_below r l f all, none_below r l g (stays_from l high all)))
-          (cases_lt (f b) l))
+      (λ below. omega (arith, above_falls h above low, below_falls l high below))
+      (λ from. let all = λ (c : ℕ) (k : c < r). trans_le from (least c k) in omega (arith, above_falls h above low, none_below r l f all, none_below r l g (stays_from l high all)))
+      (cases_lt (f b) l))
       (λ within. let all = λ (c : ℕ) (k : c < r). trans_le (most c k) within in omega (arith, below_falls l high (omega arith), none_above r h f all, none_above r h g (stays_within h low all)))
       (cases_lt h (f a))
     where
@@ -190,13 +190,3 @@ far_below r f =
     let above = total_le (λ c. f c - rounded_up (total f r) r) f r (λ c k. omega arith) in
     let below = total_at_most (λ c. rounded_down (total f r) r - f c) (rounded_down (total f r) r) r (λ c k. omega arith) in
     omega (arith, down_is (total f r) r)
-
--- it depends on the numbers below r alone
-pub far_ext : (r : ℕ) (f g : ℕ → ℕ) → ((c : ℕ) → c < r → f c ≡ g c) → far r f ≡ far r g
-far_ext r f g same = ap (λ m. far_of m r f) (total_ext f g r same) ∙ of_same (rounded_up (total g r) r) (rounded_down (total g r) r)
-  where
-    of_same : (h l : ℕ) → max (total (λ c. f c - h) r) (total (λ c. l - f c) r) ≡ max (total (λ c. g c - h) r) (total (λ c. l - g c) r)
-    of_same h l =
-        let above = total_ext (λ c. f c - h) (λ c. g c - h) r (λ c k. ap (λ x. x - h) (same c k)) in
-        let below = total_ext (λ c. l - f c) (λ c. l - g c) r (λ c k. ap (λ x. l - x) (same c k)) in
-        omega arith

@@ -70,7 +70,7 @@ module _ (t : Two) (l : Looked) (i : ℕ) (taken : Taken t l i) where
         (cases_lt from.0 i),
   )
 
-pub first_part : (t : Two) → Sound t → count (λ i. t.round i == t.b) t.many < count (λ i. t.round i == t.a) t.many → (i : ℕ) × FirstPart t (look t) i
+first_part : (t : Two) → Sound t → count (λ i. t.round i == t.b) t.many < count (λ i. t.round i == t.a) t.many → (i : ℕ) × FirstPart t (look t) i
 first_part t sound fuller =
     ⊎_elim
     (λ found.

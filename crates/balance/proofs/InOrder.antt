@@ -24,9 +24,6 @@ pub record Gathered (t : Two) (g : ℕ) (is : List ℕ) : Type 0 where
   pub all : (i : ℕ) → Member t i → t.party Groups i < g → Contains is i
   pub short : length is ≤ g + g
 
-pub none_gathered : (t : Two) → Gathered t 0 []
-none_gathered t = record { each = All-nil (Member t); all = λ i m l. absurd (omega arith); short = omega arith }
-
 if_any_short : (y : ℕ) → length (if_any y) ≤ 1
 if_any_short y = cond_both (eqb y none) [] (y ∷ []) (λ l. length l ≤ 1) (λ out. omega arith) (λ some. omega arith)
 

@@ -1,6 +1,6 @@
 -- One turn of looking: as long as all meetings of the two rounds with lower numbers are in parts passed over, looking from here
 -- on gives what looking from the start gives. Assumes nothing.
-use Rattle.std.proofs.Common.{◌≡◌, ℕ, zero, suc, ◌+◌, ◌-◌, ◌<◌, ◌≤◌, Bool, true, false, cond, not, ◌&&◌, List, [], ◌++◌, length, get_or, sym, refl, ap, ◌∙◌, ⊎_elim, arith}
+use Rattle.std.proofs.Common.{◌≡◌, ℕ, zero, suc, ◌+◌, ◌-◌, ◌<◌, ◌≤◌, Bool, true, false, cond, not, ◌&&◌, List, ◌++◌, length, get_or, sym, refl, ap, ◌∙◌, ⊎_elim, arith}
 use Rattle.std.proofs.lemmas.Bool.{and_from, cases_lt, cond-true, cond-false, or_right}
 use Rattle.std.proofs.lemmas.List.{append-nil, get_or_default}
 use Rattle.chains.specs.declared.found.Found.{Found}
@@ -72,9 +72,6 @@ pub record LookingAt (t : Two) (v w : Found) (os : List ℕ) (p : ℕ) : Type 0 
   pub rule : look_from t t.many 0 (found_in w) ≡ look t
   pub seen : (q : ℕ) → q < p → q < length os → holds (found_in w) (get_or os q 0) ≡ true
 
-pub looking_starts : (t : Two) (v : Found) (os : List ℕ) → found_in v ≡ [] → LookingAt t v v os 0
-looking_starts t v os empty = record { among = refl; rule = ap (look_from t t.many 0) empty; seen = λ q h. absurd (omega arith) }
-
 module _ (t : Two) (v w : Found) (os : List ℕ) (p : ℕ) (order : InOrder t os) (so_far : LookingAt t v w os p) where
   -- the meetings before the one at this place were seen
   all_seen : (i : ℕ) → (p < length os → i ≤ get_or os p 0) → Seen t i (found_in w)
@@ -87,7 +84,7 @@ module _ (t : Two) (v w : Found) (os : List ℕ) (p : ℕ) (order : InOrder t os
       (cases_lt at.0 p)
 
   module _ (here : p < length os) where
-    pub member_at : Member t (get_or os p 0)
+    member_at : Member t (get_or os p 0)
     member_at = order.each p 0 here
 
     -- a meeting that was found before

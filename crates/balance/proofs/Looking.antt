@@ -16,7 +16,6 @@ use Rattle.balance.proofs.Passed.{Passed, ended}
 pub record LookedAt (t : Two) (l : Looked) : Type 0 where
   pub once : Once (l.passed ++ l.taken)
   pub within : (j : ℕ) → holds (l.passed ++ l.taken) j ≡ true → (j < t.many) × (in_two t j ≡ true)
-  pub taken_once : Once l.taken
   pub taken_within : (j : ℕ) → holds l.taken j ≡ true → (j < t.many) × (in_two t j ≡ true)
   pub taken_closed : Closed t (holds l.taken)
 
@@ -25,7 +24,6 @@ with_taken : (t : Two) (l : Looked) (i : ℕ) → Passed t i l.passed → Once l
 with_taken t l i before once within closed new = record {
   once = once_from_fresh (l.passed ++ l.taken) (fresh_append l.passed l.taken (fresh_from_once l.passed before.once) (fresh_from_once l.taken once) (λ j old h. both_ways (holds l.passed j) (new j h) old));
   within = λ j h. ⊎_elim (before.within j) (within j) (append_cases l.passed l.taken j h);
-  taken_once = once;
   taken_within = within;
   taken_closed = closed;
 }

@@ -28,7 +28,7 @@ looks_added r ms (suc left) xs n m =
     added_if (uneven r (size xs)) n (exchanges r ms left (one_exchange r ms (placed xs (n + m)))) (placed xs (n + m)) (exchanges r ms left one) (placed xs m) later refl
 
 -- evening out goes on counting from the looks that there were
-pub even_out_looks : (r : ℕ) (ms : List Meeting) (p : Placed) → even_out r ms p ≡ with_looks p.looks (even_out r ms (placed p.rounds 0))
+even_out_looks : (r : ℕ) (ms : List Meeting) (p : Placed) → even_out r ms p ≡ with_looks p.looks (even_out r ms (placed p.rounds 0))
 even_out_looks r ms p = let none_more : p.looks ≡ p.looks + 0 = omega arith in ap (λ l. even_out r ms (placed p.rounds l)) none_more ∙ looks_added r ms _ p.rounds p.looks 0
 
 -- a whole plan is that of evening out, from no looks on, with those of putting in added

@@ -22,7 +22,12 @@ use placing::put_in_all;
 use std::alloc::Global;
 
 // What planning works with, for so many rounds. Only memory can be wanting.
-fn scratch_for(heap: Global, list: &MeetingList, shape: Shape, rounds: u16) -> Result<Scratch, Refusal>
+fn scratch_for(
+    heap: Global,
+    list: &MeetingList,
+    shape: Shape,
+    rounds: u16,
+) -> Result<Scratch, Refusal>
     ensures { IfMemory result (λ s. Blank s (contents list.now).meetings shape rounds) }
 {
     let sizes = vec![in heap; 0u16; usize::from(rounds)]?;
@@ -46,7 +51,12 @@ fn plan_on(board: &mut Board<'_>, rounds: u16, scratch: &mut Scratch) -> u64
 {
     let put = put_in_all(board, rounds, &mut scratch.found);
     count_sizes(board, &mut scratch.sizes);
-    put + even_out(board, &mut scratch.sizes, &mut scratch.ordered, &mut scratch.found)
+    put + even_out(
+        board,
+        &mut scratch.sizes,
+        &mut scratch.ordered,
+        &mut scratch.found,
+    )
 }
 
 // Plans on a board over the lent slices, which are emptied first. Answers the looks.

@@ -11,7 +11,7 @@ use Rattle.chains.proofs.BoardKept.{becomes_then}
 use Rattle.chains.proofs.ChainTurns.{finds_then}
 use Rattle.placing.specs.OnBoard.{PutsOn}
 use Rattle.placing.specs.Putting.{Placed, placed, put, put_from, put_all}
-use Rattle.placing.specs.Statements.{NoneBusier, PutIn, Ready}
+use Rattle.placing.specs.Statements.{PutIn, Ready}
 use Rattle.placing.proofs.PutAll.{PutBefore, one_before, put_from_more}
 
 -- before meeting i: the board d has become e, with so many looks
@@ -52,16 +52,3 @@ module _ (r : ℕ) (d e : Board) (v w : Found) (i looks : ℕ) (now_at : Putting
       same =
           ap (λ xs. placed xs (looks + l)) (done.board.rounds ∙ ap (λ (p : Placed). p.rounds) by_rule)
           ∙ ap (λ n. placed (put r (meetings_on d) (rounds_on e) i).rounds (looks + n)) (done.looks ∙ ap (λ (p : Placed). p.looks) by_rule)
-
--- all that was put in on one board was put in on another with the same meetings and shape, from which it came without rounds
-pub put_all_also : (r : ℕ) (d e f : Board) (v w : Found) (xs : List ℕ) (l : ℕ) → Becomes d e xs → PutsOn e f v w (put_all r (meetings_on e)) l → PutsOn d f v w (put_all r (meetings_on d)) l
-put_all_also r d e f v w xs l first done =
-    let by_rule : put_all r (meetings_on e) ≡ put_all r (meetings_on d) = ap (put_all r) first.meetings in
-    record {
-      board = becomes_then d e f _ _ _ first done.board (ap (λ (p : Placed). p.rounds) by_rule);
-      looks = done.looks ∙ ap (λ (p : Placed). p.looks) by_rule;
-      forgotten = done.forgotten;
-    }
-
-pub none_busier_also : (r : ℕ) (ms ms' : List Meeting) → ms' ≡ ms → NoneBusier r ms → NoneBusier r ms'
-none_busier_also r ms ms' same most = rw same most

@@ -1,9 +1,10 @@
 // Making the report of a day.
-ghost use Rattle.std.specs.Prelude.{◌≡◌, ◌*◌, length};
+ghost use Rattle.std.specs.Prelude.{◌≡◌, ◌*◌, length, IfOk};
 ghost use Rattle.meetings.specs.Bytes.{read_list};
 ghost use Rattle.meetings.specs.Held.{contents};
 ghost use Rattle.meetings.specs.Refusals.{accepted, then, Answers, IfMemory};
 ghost use Rattle.fewest.specs.Rounds.{fewest};
+ghost use Rattle.balance.specs.Lent.{OfBytes, PlansDay};
 ghost use Rattle.plan.specs.Reports.{ToldBy, told, told_of};
 
 use crate::report::{Report, nothing};
@@ -24,14 +25,16 @@ fn plan_exactly(
     requires each { length of_meetings.old ≡ length (contents list.now).meetings }
     requires groups { length group_rows.old ≡ (contents list.now).groups * fewest (contents list.now) }
     requires stations { length station_rows.old ≡ (contents list.now).stations * fewest (contents list.now) }
-    ensures { IfMemory result (λ p. ToldBy (contents list.now) p of_meetings.new) }
+    ensures told { IfMemory result (λ p. ToldBy (contents list.now) p of_meetings.new) }
+    ensures planned { IfOk result (PlansDay (contents list.now) of_meetings.new) }
 {
     plan(heap, list, of_meetings, group_rows, station_rows)
 }
 
 // The report of a list. The rows are lent just as long as the number of rounds asks for, so only memory can be wanting.
 fn report_on(heap: Global, list: &MeetingList) -> Result<Report, Refusal>
-    ensures { IfMemory result (λ report. told report ≡ told_of (contents list.now)) }
+    ensures told { IfMemory result (λ report. told report ≡ told_of (contents list.now)) }
+    ensures planned { IfOk result (λ report. PlansDay (contents list.now) report.of_meetings.items report.planned) }
 {
     let rounds = usize::from(fewest_rounds(heap, list)?);
     let mut of_meetings = nothing(heap, list.meetings().len())?;
@@ -53,9 +56,10 @@ fn report_on(heap: Global, list: &MeetingList) -> Result<Report, Refusal>
     })
 }
 
-// The report of the list that the bytes say.
+// The report of the list that the bytes say. What it tells is a plan within the rooms and even, and no plan has fewer rounds.
 pub(crate) fn report_of(heap: Global, bytes: &[u8]) -> Result<Report, Refusal>
-    ensures { Answers told result (then (read_list bytes.now) (λ d. accepted (told_of d))) }
+    ensures told { Answers told result (then (read_list bytes.now) (λ d. accepted (told_of d))) }
+    ensures planned { IfOk result (λ report. OfBytes bytes.now (λ d. PlansDay d report.of_meetings.items report.planned)) }
 {
     let list = meetings::read(heap, bytes)?;
     report_on(heap, &list)
