@@ -19,7 +19,7 @@ use Rattle.balance.proofs.OneExchange.{sizes_together}
 use Rattle.balance.proofs.EvenedOut.{evens_out}
 
 -- a plan for r rounds, within the rooms and even
-pub record Planned (d : Contents) (r : ℕ) (xs : List ℕ) : Type 0 where
+pub record EvenPlan (d : Contents) (r : ℕ) (xs : List ℕ) : Type 0 where
   pub plan : Plan r d.meetings xs
   pub within : Rooms d.rooms r xs
   pub even : Evened r xs
@@ -29,7 +29,7 @@ pub as_partial : (r : ℕ) (ms : List Meeting) (xs : List ℕ) → Plan r ms xs 
 as_partial r ms xs plan = record { each = plan.each; round = λ i h. inr (plan.round i h); apart = plan.apart }
 
 -- A WHOLE PLAN is one, where so many rounds suffice
-pub planned_all : (d : Contents) (r : ℕ) → Exist d.groups d.stations d.meetings → length d.meetings ≤ none → r ≤ none → Suffices d r → Planned d r (plan_all r d.meetings).rounds
+pub planned_all : (d : Contents) (r : ℕ) → Exist d.groups d.stations d.meetings → length d.meetings ≤ none → r ≤ none → Suffices d r → EvenPlan d r (plan_all r d.meetings).rounds
 unfolding plan_all
 planned_all d r exist few le enough =
     let before = (puts_all d.groups d.stations r d.meetings exist few le (none_busier d r exist enough.0)).plan in
@@ -52,7 +52,7 @@ none_beyond r ms xs plan c past =
     ∙ count_none (λ i. eqb (round_of xs i) c) (length ms) (λ i h. ne_eqb (round_of xs i) c (λ e. omega (arith, plan.round i h)))
 
 -- with more rounds than meetings: as many rounds as meetings have one meeting each at most, and the others none
-planned_more : (d : Contents) (r : ℕ) (xs : List ℕ) → length d.meetings < r → Planned d (length d.meetings) xs → Planned d r xs
+planned_more : (d : Contents) (r : ℕ) (xs : List ℕ) → length d.meetings < r → EvenPlan d (length d.meetings) xs → EvenPlan d r xs
 planned_more d r xs more p = record {
   plan = plan_for_more m r d.meetings xs (omega arith) p.plan;
   within = λ c h. ⊎_elim (p.within c) (λ past. omega (arith, none_beyond m d.meetings xs p.plan c past)) (cases_lt c m);
@@ -70,7 +70,7 @@ planned_more d r xs more p = record {
         (cases_lt c m)
 
 -- there is such a plan for any number of rounds that suffices
-planned_for : (d : Contents) (r : ℕ) → Exist d.groups d.stations d.meetings → length d.meetings ≤ none → Suffices d r → (xs : List ℕ) × Planned d r xs
+planned_for : (d : Contents) (r : ℕ) → Exist d.groups d.stations d.meetings → length d.meetings ≤ none → Suffices d r → (xs : List ℕ) × EvenPlan d r xs
 planned_for d r exist few enough =
     let m = length d.meetings in
     ⊎_elim

@@ -87,11 +87,8 @@ fn plan_lent(
     plan_on(&mut board, many, scratch)
 }
 
-// Plans a day: puts all meetings in, in the fewest rounds, and evens the rounds out. Three slices are lent, since no memory is
-// taken for a plan: the rounds of the meetings, a row of rounds for each group, and one for each station. A slice that is too
-// short is refused, and memory may be wanting; nothing lent has changed then. Else the lent rounds hold a plan, within the rooms
-// and even, and no plan within the rooms has fewer rounds.
-pub fn plan(
+// Plans a day by the rule. All that may be refused is looked at before anything that is lent is changed.
+fn plan_by_rule(
     heap: Global,
     list: &MeetingList,
     rounds: &mut [u16],
@@ -100,7 +97,6 @@ pub fn plan(
 ) -> Result<Planned, Refusal>
     ensures answer { Answers (λ p. p) result (planned_of (contents list.now) (length rounds.old) (length group_rows.old) (length station_rows.old)) }
     ensures lent { MatchResult result (λ _. PlannedLent (contents list.now) rounds.old rounds.new group_rows.old group_rows.new station_rows.old station_rows.new) (λ _. Unchanged rounds.old rounds.new group_rows.old group_rows.new station_rows.old station_rows.new) }
-    ensures planned { IfOk result (PlansDay (contents list.now) rounds.new) }
 {
     let many = fewest_rounds(heap, list)?;
     let shape = Shape::of_lent(
@@ -125,6 +121,24 @@ pub fn plan(
         rounds: many,
         looks,
     })
+}
+
+// Plans a day: puts all meetings in, in the fewest rounds, and evens the rounds out. Three slices are lent, since no memory is
+// taken for a plan: the rounds of the meetings, a row of rounds for each group, and one for each station. A slice that is too
+// short is refused, and memory may be wanting; nothing lent has changed then. Else the lent rounds hold a plan, within the rooms
+// and even, and no plan within the rooms has fewer rounds.
+pub fn plan(
+    heap: Global,
+    list: &MeetingList,
+    rounds: &mut [u16],
+    group_rows: &mut [u16],
+    station_rows: &mut [u16],
+) -> Result<Planned, Refusal>
+    ensures answer { Answers (λ p. p) result (planned_of (contents list.now) (length rounds.old) (length group_rows.old) (length station_rows.old)) }
+    ensures lent { MatchResult result (λ _. PlannedLent (contents list.now) rounds.old rounds.new group_rows.old group_rows.new station_rows.old station_rows.new) (λ _. Unchanged rounds.old rounds.new group_rows.old group_rows.new station_rows.old station_rows.new) }
+    ensures planned { IfOk result (PlansDay (contents list.now) rounds.new) }
+{
+    plan_by_rule(heap, list, rounds, group_rows, station_rows)
 }
 
 // Plans the day that the bytes say: a list that breaks a rule is refused first, as reading does, and then as `plan` does.
