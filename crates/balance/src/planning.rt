@@ -2,7 +2,7 @@
 ghost use Rattle.std.specs.Prelude.{◌≡◌, length, replicate, IfOk, MatchResult};
 ghost use Rattle.meetings.specs.Bytes.{read_list};
 ghost use Rattle.meetings.specs.Held.{contents};
-ghost use Rattle.meetings.specs.Refusals.{Answers, IfMemory, then};
+ghost use Rattle.meetings.specs.Refusals.{Answers, then};
 ghost use Rattle.fewest.specs.Plans.{none};
 ghost use Rattle.chains.specs.Boards.{Becomes, meetings_on, rounds_on};
 ghost use Rattle.chains.specs.Rows.{ManyWithin};
@@ -15,30 +15,11 @@ use crate::evening::even_out;
 use crate::planned::Planned;
 use crate::scratch::Scratch;
 use crate::sizes::count_sizes;
-use chains::{Board, Found, Shape, empty};
+use chains::{Board, Shape, empty};
 use fewest::fewest_rounds;
-use meetings::{Meeting, MeetingList, Refusal, Side, read};
+use meetings::{Meeting, MeetingList, Refusal, read};
 use placing::put_in_all;
 use std::alloc::Global;
-
-// What planning works with, for so many rounds. Only memory can be wanting.
-fn scratch_for(
-    heap: Global,
-    list: &MeetingList,
-    shape: Shape,
-    rounds: u16,
-) -> Result<Scratch, Refusal>
-    ensures { IfMemory result (λ s. Blank s (contents list.now).meetings shape rounds) }
-{
-    let sizes = vec![in heap; 0u16; usize::from(rounds)]?;
-    let ordered = Vec::with_capacity(heap, 2 * usize::from(shape.parties(Side::Groups)))?;
-    let found = Found::none(heap, list.meetings().len())?;
-    Ok(Scratch {
-        sizes,
-        ordered,
-        found,
-    })
-}
 
 // Puts all meetings in on a board without rounds, and evens the rounds out. Answers the looks.
 fn plan_on(board: &mut Board<'_>, rounds: u16, scratch: &mut Scratch) -> u64
@@ -106,7 +87,7 @@ fn plan_by_rule(
         group_rows.len(),
         station_rows.len(),
     )?;
-    let mut scratch = scratch_for(heap, list, shape, many)?;
+    let mut scratch = Scratch::blank(heap, list, shape, many)?;
     let meetings = list.meetings();
     let looks = plan_lent(
         meetings,
