@@ -40,8 +40,8 @@ pub(crate) struct Placed {
 // The meetings that were put in so far, in their order, among so many rounds, and the looks that it took.
 #[derive(Drop)]
 pub(crate) struct PartialPlan {
-    many: u16,
-    placed: Vec<Placed>,
+    pub(crate) many: u16,
+    pub(crate) placed: Vec<Placed>,
     pub(crate) looks: u64,
 }
 
@@ -109,7 +109,7 @@ impl PartialPlan {
     }
 
     // Exchanges two rounds on the members of a chain.
-    fn exchange(&mut self, members: &[MeetingId], a: Round, b: Round) {
+    pub(crate) fn exchange(&mut self, members: &[MeetingId], a: Round, b: Round) {
         for placed in &mut self.placed {
             if members.contains(&placed.number) {
                 placed.round = if placed.round == a { b } else { a };

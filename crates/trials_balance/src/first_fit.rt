@@ -48,7 +48,7 @@ fn first_fit_takes_more_rounds(rt: HostRuntime) -> Result<(), Fail> {
         let list = list_of(heap, 3, 4, 4, meetings)?;
         assert_eq!(rt; fewest_rounds(heap, &list)?, many);
         let mut lent = Slices::new(heap, just_enough(&list, many))?;
-        assert_eq!(rt; lent.place(heap, &list)?.rounds, many);
+        assert_eq!(rt; lent.plan(heap, &list)?.rounds, many);
         assert!(rt; is_plan(list.meetings(), &lent.rounds, many));
     }
     Ok(())
