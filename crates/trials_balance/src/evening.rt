@@ -3,7 +3,7 @@ use crate::rule::{PartialPlan, Placed};
 use meetings::{Meeting, MeetingId, Round};
 use std::alloc::{AllocError, Global};
 
-fn is_beside(one: Meeting, other: Meeting) -> bool {
+pub(crate) fn is_beside(one: Meeting, other: Meeting) -> bool {
     one.group == other.group || one.station == other.station
 }
 
@@ -51,7 +51,7 @@ impl PartialPlan {
     }
 
     // The fullest and the emptiest round, if the one has at least two meetings more than the other.
-    fn uneven(&self) -> Option<(Round, Round)> {
+    pub(crate) fn uneven(&self) -> Option<(Round, Round)> {
         let most = (0..self.many).map(|round| self.size(Round(round))).max()?;
         let least = (0..self.many).map(|round| self.size(Round(round))).min()?;
         if most < least.saturating_add(2) {

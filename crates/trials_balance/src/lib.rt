@@ -11,16 +11,20 @@ mod days;
 #[cfg(test)]
 mod evening;
 #[cfg(test)]
-mod first_fit;
-#[cfg(test)]
 mod lent;
 mod plans;
 #[cfg(test)]
+mod put_ways;
+#[cfg(test)]
 mod random_lists;
+#[cfg(test)]
+mod room_ways;
 #[cfg(test)]
 mod rule;
 #[cfg(test)]
 mod slices;
+#[cfg(test)]
+mod ways;
 #[cfg(test)]
 mod worked;
 
