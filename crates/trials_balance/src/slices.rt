@@ -1,8 +1,8 @@
 // Slices that are too short, just long enough or very long, and a list without meetings.
-use crate::checks::{check_placed, list_of};
+use crate::checks::{check_planned, list_of};
 use crate::lent::{Lengths, Slices};
+use balance::{Planned, plan};
 use meetings::{Lent, MeetingList, Refusal};
-use placing::{Planned, place_all};
 use std::alloc::Global;
 use std::process::Abort;
 use std::test::Fail;
@@ -17,7 +17,7 @@ fn check_short(
 ) -> Result<(), Fail> {
     let mut lent = Slices::new(heap, lengths)?;
     assert_eq!(rt;
-        lent.place(heap, list).err(),
+        lent.plan(heap, list).err(),
         Some(Refusal::ShortSlice(short))
     );
     assert_eq!(rt; lent, Slices::new(heap, lengths)?);
@@ -51,7 +51,7 @@ fn short_slices_are_refused(rt: HostRuntime) -> Result<(), Fail> {
         Lengths::new(6, 11, 7),
         Lengths::new(5, 12, 20),
     ] {
-        assert_eq!(rt; check_placed(&rt, heap, &list, lengths)?, 0);
+        check_planned(&rt, heap, &list, lengths)?;
     }
     Ok(())
 }
@@ -60,7 +60,7 @@ fn short_slices_are_refused(rt: HostRuntime) -> Result<(), Fail> {
 fn no_meetings_take_no_rounds(rt: HostRuntime) -> Result<(), Fail> {
     let heap = rt.alloc();
     let list = list_of(heap, 3, 2, 2, &[])?;
-    let planned = place_all(heap, &list, &mut [], &mut [], &mut [])?;
+    let planned = plan(heap, &list, &mut [], &mut [], &mut [])?;
     assert_eq!(rt;
         planned,
         Planned {
@@ -69,7 +69,7 @@ fn no_meetings_take_no_rounds(rt: HostRuntime) -> Result<(), Fail> {
         }
     );
     // rows that are lent all the same are emptied
-    assert_eq!(rt; check_placed(&rt, heap, &list, Lengths::new(2, 7, 5))?, 0);
+    check_planned(&rt, heap, &list, Lengths::new(2, 7, 5))?;
     Ok(())
 }
 
@@ -77,9 +77,6 @@ fn no_meetings_take_no_rounds(rt: HostRuntime) -> Result<(), Fail> {
 #[test]
 fn rows_of_all_rounds(rt: HostRuntime) -> Result<(), Fail> {
     let list = list_of(rt.alloc(), 1, 1, 1, &[(0, 0), (0, 0)])?;
-    assert_eq!(rt;
-        check_placed(&rt, rt.alloc(), &list, Lengths::new(2, 65537, 70000))?,
-        0
-    );
+    check_planned(&rt, rt.alloc(), &list, Lengths::new(2, 65537, 70000))?;
     Ok(())
 }

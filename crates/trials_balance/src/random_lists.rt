@@ -1,5 +1,5 @@
 // Random lists beside the rule written once more.
-use crate::checks::{check_placed, list_of};
+use crate::checks::{check_planned, list_of};
 use crate::lent::Lengths;
 use crate::rule::number_of_rounds;
 use std::alloc::{AllocError, Global};
@@ -30,7 +30,7 @@ fn some_meetings(
 ) -> Result<Vec<(u8, u8)>, AllocError> {
     let mut meetings = Vec::new(heap);
     let most = 1 + random.below(6);
-    for _ in 0..random.below(200) {
+    for _ in 0..random.below(100) {
         let group = random.below(groups.max(1));
         let station = random.below(stations.max(1));
         if meetings.len() < 40 && has_place(&meetings, (group, station), most) {
@@ -46,15 +46,17 @@ fn some_length(random: &mut Random, parties: u8, rounds: u16) -> usize {
     width * usize::from(parties) + usize::from(random.below(parties.max(1)))
 }
 
-// Up to eight groups and eight stations; with eight rooms and more these do not bind. Up to three rounds too many are lent.
+// Up to 16 groups, stations and rooms. Up to three rounds too many are lent.
 #[test]
 fn random_lists_beside_the_rule(rt: HostRuntime) -> Result<(), Fail> {
     let heap = rt.alloc();
     let mut random = Random::new(11);
     let mut on_chains = 0u64;
+    let mut evened = 0u32;
+    let mut parts = 0u32;
     for _ in 0..1000 {
-        let groups = 1 + random.below(8);
-        let stations = 1 + random.below(8);
+        let groups = 1 + random.below(16);
+        let stations = 1 + random.below(16);
         let rooms = 1 + random.below(16);
         let meetings = some_meetings(heap, &mut random, groups, stations)?;
         let list = list_of(heap, groups, stations, rooms, &meetings)?;
@@ -64,9 +66,15 @@ fn random_lists_beside_the_rule(rt: HostRuntime) -> Result<(), Fail> {
             group_rows: some_length(&mut random, groups, rounds),
             station_rows: some_length(&mut random, stations, rounds),
         };
-        on_chains = on_chains.saturating_add(check_placed(&rt, heap, &list, lengths)?);
+        let work = check_planned(&rt, heap, &list, lengths)?;
+        on_chains = on_chains.saturating_add(work.chained);
+        evened = evened.saturating_add(u32::from(work.exchanges > 0));
+        // a part of more than one meeting was looked at
+        parts = parts.saturating_add(u32::from(work.looked_at > work.exchanges));
     }
     // else the lists would show little
-    assert!(rt; on_chains > 1000);
+    assert!(rt; on_chains > 500);
+    assert!(rt; evened > 300);
+    assert!(rt; parts > 200);
     Ok(())
 }

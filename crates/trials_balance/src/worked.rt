@@ -1,9 +1,8 @@
-// Worked lists: the rounds and the looks follow from the rule by hand.
-use crate::checks::list_of;
+// Worked days: the rounds and the looks follow from the rule by hand.
+use crate::checks::{check_planned, is_planned, list_of, size};
 use crate::lent::{Lengths, Slices};
-use crate::plans::is_plan;
+use balance::Planned;
 use meetings::MeetingList;
-use placing::Planned;
 use std::alloc::Global;
 use std::process::Abort;
 use std::test::Fail;
@@ -28,6 +27,9 @@ pub(crate) const TWO_CHAINS: [(u8, u8); 9] = [
     (0, 0),
 ];
 
+// Evening out: round 1 has two meetings of each part, and round 0 one.
+pub(crate) const TWO_PARTS: [(u8, u8); 6] = [(0, 0), (0, 1), (1, 0), (2, 2), (2, 3), (3, 2)];
+
 // Slices without an entry too many.
 pub(crate) fn just_enough(list: &MeetingList, rounds: u16) -> Lengths {
     let many = usize::from(rounds);
@@ -47,30 +49,83 @@ fn check_rounds(
     looks: u64,
 ) -> Result<(), Fail> {
     let mut lent = Slices::new(heap, just_enough(list, many))?;
-    let planned = lent.place(heap, list)?;
     assert_eq!(rt;
-        planned,
+        lent.plan(heap, list)?,
         Planned {
             rounds: many,
             looks
         }
     );
     assert_eq!(rt; lent.rounds.as_slice(), rounds);
-    assert!(rt; is_plan(list.meetings(), &lent.rounds, many));
+    assert!(rt; is_planned(list, &lent.rounds, many));
     Ok(())
 }
 
 #[test]
-fn chains_that_were_worked(rt: HostRuntime) -> Result<(), Fail> {
-    // meetings, how many rounds, the rounds, the looks; three groups and four stations
-    let cases: [(&[(u8, u8)], u16, &[u16], u64); 3] = [
-        (&CHAIN_OF_ONE, 2, &[0, 1, 1, 0], 4 + 1),
-        (&CHAIN_OF_TWO, 2, &[0, 1, 1, 0, 0], 5 + 2),
-        (&TWO_CHAINS, 3, &[1, 2, 0, 0, 2, 1, 0, 1, 2], 9 + 2 + 4),
+fn days_that_were_worked(rt: HostRuntime) -> Result<(), Fail> {
+    // meetings, rooms, how many rounds, the rounds, the looks; five groups and five stations
+    let cases: [(&[(u8, u8)], u8, u16, &[u16], u64); 11] = [
+        (&[(0, 0), (0, 1), (1, 0), (1, 1)], 2, 2, &[0, 1, 1, 0], 4),
+        (&[(0, 0), (0, 0), (0, 1)], 9, 3, &[0, 1, 2], 3),
+        (&[], 4, 0, &[], 0),
+        (
+            &[(0, 0), (0, 1), (0, 2), (1, 0), (2, 0)],
+            2,
+            3,
+            &[0, 1, 2, 1, 2],
+            5,
+        ),
+        (&CHAIN_OF_ONE, 4, 2, &[0, 1, 1, 0], 4 + 1),
+        (&CHAIN_OF_TWO, 4, 2, &[0, 1, 1, 0, 0], 5 + 2),
+        (&TWO_CHAINS, 4, 3, &[1, 2, 0, 0, 2, 1, 0, 1, 2], 9 + 2 + 4),
+        // all three are put into round 0; meeting 0 goes to round 1, and then meeting 1 to round 2
+        (&[(0, 0), (1, 1), (2, 2)], 1, 3, &[1, 2, 0], 3 + 1 + 1),
+        // meetings 0 and 1 are a part with as many in the one round as in the other, and passed over
+        (
+            &[(0, 0), (0, 1), (1, 2), (2, 3)],
+            2,
+            2,
+            &[0, 1, 1, 0],
+            4 + 2 + 1,
+        ),
+        // meetings 0, 1 and 2 are a part with one more in the emptier round, and passed over
+        (
+            &[(0, 0), (0, 1), (1, 0), (2, 2), (3, 3), (4, 4)],
+            3,
+            2,
+            &[0, 1, 1, 1, 0, 0],
+            6 + 3 + 1,
+        ),
+        // a part of three is exchanged
+        (&TWO_PARTS, 3, 2, &[1, 0, 0, 0, 1, 1], 6 + 3),
     ];
-    for (meetings, many, rounds, looks) in cases {
-        let list = list_of(rt.alloc(), 3, 4, 4, meetings)?;
+    for (meetings, rooms, many, rounds, looks) in cases {
+        let list = list_of(rt.alloc(), 5, 5, rooms, meetings)?;
         check_rounds(&rt, rt.alloc(), &list, many, rounds, looks)?;
+    }
+    Ok(())
+}
+
+// Each of five groups with each of five stations: five rooms are full in five rounds, and four rooms in four of seven.
+#[test]
+fn five_by_five(rt: HostRuntime) -> Result<(), Fail> {
+    let heap = rt.alloc();
+    let meetings = (0..5u8)
+        .flat_map(|group| (0..5u8).map(move |station| (group, station)))
+        .collect::<Vec<_>>(heap)?;
+    // rooms, how many meetings the rounds have, by falling number
+    let cases: [(u8, &[usize]); 2] = [(5, &[5, 5, 5, 5, 5]), (4, &[4, 4, 4, 4, 3, 3, 3])];
+    for (rooms, sizes) in cases {
+        let list = list_of(heap, 5, 5, rooms, &meetings)?;
+        let mut lent = Slices::new(heap, Lengths::new(25, 35, 35))?;
+        let many = lent.plan(heap, &list)?.rounds;
+        let mut planned = (0..many)
+            .map(|round| size(&lent.rounds, round))
+            .collect::<Vec<_>>(heap)?;
+        planned.sort_unstable();
+        planned.reverse();
+        assert_eq!(rt; planned.as_slice(), sizes);
+        check_planned(&rt, heap, &list, just_enough(&list, many))?;
     }
     Ok(())
 }

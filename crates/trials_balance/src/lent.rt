@@ -1,7 +1,7 @@
 // The three slices that are lent, and what they hold before and after.
 use crate::rule::PartialPlan;
+use balance::{Planned, plan, plan_bytes};
 use meetings::{MeetingId, MeetingList, Refusal, Round, Side};
-use placing::{Planned, place_all};
 use std::alloc::{AllocError, Global};
 
 // What stands for a meeting without a round, and in a row for a round without a meeting: a lent slice is of u16. It is said
@@ -99,10 +99,20 @@ impl Slices {
         })
     }
 
-    pub(crate) fn place(&mut self, heap: Global, list: &MeetingList) -> Result<Planned, Refusal> {
-        place_all(
+    pub(crate) fn plan(&mut self, heap: Global, list: &MeetingList) -> Result<Planned, Refusal> {
+        plan(
             heap,
             list,
+            &mut self.rounds,
+            &mut self.group_rows,
+            &mut self.station_rows,
+        )
+    }
+
+    pub(crate) fn plan_bytes(&mut self, heap: Global, bytes: &[u8]) -> Result<Planned, Refusal> {
+        plan_bytes(
+            heap,
+            bytes,
             &mut self.rounds,
             &mut self.group_rows,
             &mut self.station_rows,

@@ -1,7 +1,7 @@
 // Whether rounds are a plan, by comparing all pairs of meetings. The tests rest on it, so what it answers is proved.
 ghost use Rattle.std.specs.Prelude.{ℕ, ◌<◌, ◌≤◌, ◌↔◌, IsTrue, length, take};
 ghost use Rattle.fewest.specs.Plans.{Plan};
-ghost use Rattle.trials_placing.specs.Clashes.{Clash, Fits};
+ghost use Rattle.trials_balance.specs.Clashes.{Clash, Fits};
 
 use meetings::Meeting;
 

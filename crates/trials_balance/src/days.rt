@@ -1,0 +1,60 @@
+// The largest lists.
+use crate::checks::{is_planned, list_of};
+use crate::lent::{Lengths, Slices};
+use balance::Planned;
+use std::test::Fail;
+
+// 4,000 meetings of one pair have a round each, in their order.
+#[test]
+fn meetings_of_one_pair(rt: HostRuntime) -> Result<(), Fail> {
+    let heap = rt.alloc();
+    let meetings = vec![in heap; (0u8, 0u8); 4000]?;
+    let numbers = (0..4000u16).collect::<Vec<_>>(heap)?;
+    let list = list_of(heap, 1, 1, 120, &meetings)?;
+    let mut lent = Slices::new(heap, Lengths::new(4000, 4000, 4000))?;
+    let planned = lent.plan(heap, &list)?;
+    assert_eq!(rt;
+        planned,
+        Planned {
+            rounds: 4000,
+            looks: 4000
+        }
+    );
+    assert_eq!(rt; lent.rounds.as_slice(), numbers.as_slice());
+    assert_eq!(rt; lent.group_rows.as_slice(), numbers.as_slice());
+    assert_eq!(rt; lent.station_rows.as_slice(), numbers.as_slice());
+    Ok(())
+}
+
+// 4,000 meetings spread over 120 groups and 120 stations, of which none has more than 34: group by group, where each round
+// fills up before the next, and in a mixed order, where chains are needed. The looks are those of the rule worked by another
+// program. With one room they also follow by hand: putting in group by group fills 34 rounds, and then each of the other
+// 3,966 gets one meeting, which shares nothing with the emptier round.
+#[test]
+fn full_days(rt: HostRuntime) -> Result<(), Fail> {
+    let heap = rt.alloc();
+    let days = [
+        // the step from meeting to meeting, rooms, rounds, looks
+        (1u16, 120u8, 34u16, 5902u64),
+        (1777, 120, 34, 9513),
+        (1, 34, 118, 38695),
+        (1777, 34, 118, 20214),
+        (1, 1, 4000, 4000 + 3966),
+        (1777, 1, 4000, 7961),
+    ];
+    for (step, rooms, rounds, looks) in days {
+        let meetings = (0..4000u16)
+            .map(|number| {
+                let i = u32::from(number) * u32::from(step) % 4000;
+                // `as`, since it is proved to fit
+                ((i % 120) as u8, ((i + i / 120) % 120) as u8)
+            })
+            .collect::<Vec<_>>(heap)?;
+        let list = list_of(heap, 120, 120, rooms, &meetings)?;
+        let row = usize::from(rounds).saturating_mul(120);
+        let mut lent = Slices::new(heap, Lengths::new(4000, row, row))?;
+        assert_eq!(rt; lent.plan(heap, &list)?, Planned { rounds, looks });
+        assert!(rt; is_planned(&list, &lent.rounds, rounds));
+    }
+    Ok(())
+}
