@@ -23,8 +23,8 @@ use Rattle.placing.specs.Putting.{Placed, placed}
 use Rattle.placing.proofs.AllTurns.{finds_same, still_unused}
 use Rattle.balance.specs.Evening.{even_out, one_exchange, after_look}
 use Rattle.balance.specs.Looking.{look, looks_of}
-use Rattle.balance.specs.OnBoard.{Exchanges, ExchangedOn, EvensOn, RoomForTwo, Uneven}
-use Rattle.balance.specs.Sizes.{Extremes, size, sizes_of, fullest, uneven, far}
+use Rattle.balance.specs.OnBoard.{CanExchange, ExchangedOn, EvensOn, RoomForTwo, ReadyToEven}
+use Rattle.balance.specs.Sizes.{UnevenRounds, size, sizes_of, fullest, uneven, far}
 use Rattle.balance.specs.Statements.{EvenedOut, Exchanged}
 use Rattle.balance.proofs.Counted.{moved_sizes, size_at, size_short}
 use Rattle.balance.proofs.EvenedOut.{exchanges_end, exchanges_more}
@@ -35,7 +35,7 @@ use Rattle.balance.proofs.OneExchange.{exchange_allowed, exchange_moves, one_exc
 -- the board d has become e, with so many looks, and is ready for more
 pub record Evening (d e : Board) (v w : Found) (before ns : List ℕ) (room looks : ℕ) : Type 0 where
   pub board : Becomes d e (rounds_on e)
-  pub ready : Uneven e ns w room
+  pub ready : ReadyToEven e ns w room
   pub long : length ns ≡ length before
   pub rule : even_out (length ns) (meetings_on e) (placed (rounds_on e) looks) ≡ even_out (length before) (meetings_on d) (placed (rounds_on d) 0)
   pub forgotten : Finds v w []
@@ -46,7 +46,7 @@ far_few : (r : ℕ) (ms : List Meeting) (xs : List ℕ) → length ms ≤ none �
 far_few r ms xs few plan = omega (arith, far_below r (size xs), sizes_together r ms xs plan, few)
 
 -- at the start
-pub evening_starts : (d : Board) (v : Found) (ns : List ℕ) (room : ℕ) → Uneven d ns v room → Evening d d v v ns ns room 0
+pub evening_starts : (d : Board) (v : Found) (ns : List ℕ) (room : ℕ) → ReadyToEven d ns v room → Evening d d v v ns ns room 0
 evening_starts d v ns room ready = record {
   board = becomes_same d (rounds_on d) refl;
   ready = ready;
@@ -61,7 +61,7 @@ module _ (xs ns : List ℕ) (e : ns ≡ sizes_of (length ns) xs) where
   each : (c : ℕ) → c < length ns → get_or ns c 0 ≡ size xs c
   each c h = ap (λ m. get_or m c 0) e ∙ size_at (length ns) xs c 0 h
 
-  extremes_of : (t : TwoRounds) → Extremes (length ns) (λ c. get_or ns c 0) t → Extremes (length ns) (size xs) t
+  extremes_of : (t : TwoRounds) → UnevenRounds (length ns) (λ c. get_or ns c 0) t → UnevenRounds (length ns) (size xs) t
   extremes_of t ends = record {
     fullest = ends.fullest ∙ fullest_ext (length ns) (λ c. get_or ns c 0) (size xs) each;
     emptiest = ends.emptiest ∙ emptiest_ext (length ns) (λ c. get_or ns c 0) (size xs) each;
@@ -76,8 +76,8 @@ module _ (xs ns : List ℕ) (e : ns ≡ sizes_of (length ns) xs) where
       (cases_Bool (uneven (length ns) (size xs)))
 
 -- the fullest and the emptiest of the rounds of a board
-module _ (e : Board) (ns : List ℕ) (w : Found) (room : ℕ) (ready : Uneven e ns w room) (t : TwoRounds) (ends : Extremes (length ns) (λ c. get_or ns c 0) t) where
-  of_rounds : Extremes (length ns) (size (rounds_on e)) t
+module _ (e : Board) (ns : List ℕ) (w : Found) (room : ℕ) (ready : ReadyToEven e ns w room) (t : TwoRounds) (ends : UnevenRounds (length ns) (λ c. get_or ns c 0) t) where
+  of_rounds : UnevenRounds (length ns) (size (rounds_on e)) t
   of_rounds = extremes_of (rounds_on e) ns ready.counted t ends
 
   some : 1 ≤ length ns
@@ -105,7 +105,7 @@ module _ (e : Board) (ns : List ℕ) (w : Found) (room : ℕ) (ready : Uneven e 
   le = omega (arith, ready.within.0, e.held.groups.narrow)
 
   -- they can be exchanged on the part that looking finds
-  pub can_exchange : Exchanges e w room t
+  pub can_exchange : CanExchange e w room t
   can_exchange = record {
     sound = two_sound (length ns) (meetings_on e) (rounds_on e) t.a.0 t.b.0 e.held.few a_below b_below two_differ ready.plan;
     exchange = exchange_allowed (length ns) (meetings_on e) (rounds_on e) t.a.0 t.b.0 le e.held.few ready.plan a_below b_below two_differ e.shape (omega (arith, a_below, ready.within.0), omega (arith, a_below, ready.within.1)) (omega (arith, b_below, ready.within.0), omega (arith, b_below, ready.within.1));
@@ -135,8 +135,8 @@ unused_also : (w : Found) (m m' : ℕ) → m' ≡ m → Unused w m → Unused w 
 unused_also w m m' e unused = rw e unused
 
 -- one exchange more
-module _ (d e e' : Board) (v w w' : Found) (before ns ns' : List ℕ) (room looks l : ℕ) (so_far : Evening d e v w before ns room looks) (t : TwoRounds) (ends : Extremes (length ns) (λ c. get_or ns c 0) t) (done : ExchangedOn e e' w w' t l) (set_to : ns' ≡ set (set ns t.a.0 (get_or ns t.a.0 0 - 1)) t.b.0 (get_or ns t.b.0 0 + 1)) where
-  ready : Uneven e ns w room
+module _ (d e e' : Board) (v w w' : Found) (before ns ns' : List ℕ) (room looks l : ℕ) (so_far : Evening d e v w before ns room looks) (t : TwoRounds) (ends : UnevenRounds (length ns) (λ c. get_or ns c 0) t) (done : ExchangedOn e e' w w' t l) (set_to : ns' ≡ set (set ns t.a.0 (get_or ns t.a.0 0 - 1)) t.b.0 (get_or ns t.b.0 0 + 1)) where
+  ready : ReadyToEven e ns w room
   ready = so_far.ready
 
   apart : uneven (length ns) (size (rounds_on e)) ≡ true

@@ -8,7 +8,7 @@ use Rattle.fewest.specs.Plans.{none}
 use Rattle.chains.specs.Partial.{Partial}
 use Rattle.placing.specs.Putting.{Placed}
 use Rattle.balance.specs.Sizes.{size, fullest, emptiest, uneven, far}
-use Rattle.balance.specs.Evening.{one_exchange, exchanges, even_out}
+use Rattle.balance.specs.Evening.{one_exchange, exchanges, even_out, number_of_exchanges}
 use Rattle.balance.specs.Statements.{EvenedOut, Ends, EvensOut}
 use Rattle.balance.proofs.Extremes.{fullest_is, emptiest_is, even_is}
 use Rattle.balance.proofs.OneExchange.{one_exchange_is, round_short, some_rounds}
@@ -52,8 +52,21 @@ module _ (r : ℕ) (ms : List Meeting) (le : r ≤ none) (few : length ms ≤ no
       (λ even. no_step r ms (suc longer) p even ∙ sym (no_step r ms (suc left) p even))
       (cases_Bool (uneven r (size p.rounds)))
 
+  -- however many are allowed, there are no more than the steps that they are away
+  no_more : (left longer : ℕ) (p : Placed) → Partial r ms p.rounds → far r (size p.rounds) ≡ left → number_of_exchanges r ms longer p ≤ left
+  no_more left zero p plan e = omega arith
+  no_more left (suc longer) p plan e =
+      cond_both (uneven r (size p.rounds)) (suc (number_of_exchanges r ms longer (one_exchange r ms p))) 0 (λ n. n ≤ left)
+      (λ apart.
+      let one = one_exchange_is r ms p le few plan apart in
+      omega (arith, no_more (far r (size (one_exchange r ms p).rounds)) longer (one_exchange r ms p) one.plan refl, one.nearer))
+      (λ even. omega arith)
+
 pub ends : Ends
-ends r more ms p le few plan = ends_after r ms le few (far r (size p.rounds)) (far r (size p.rounds) + more) p (omega arith) plan refl
+ends r more ms p le few plan = (
+  ends_after r ms le few (far r (size p.rounds)) (far r (size p.rounds) + more) p (omega arith) plan refl,
+  no_more r ms le few (far r (size p.rounds)) (far r (size p.rounds) + more) p plan refl,
+)
 
 module _ (n k r : ℕ) (ms : List Meeting) (exist : Exist n k ms) (le : r ≤ none) (few : length ms ≤ none) where
   -- rounds that are even already

@@ -3,11 +3,12 @@
 -- is 0 before and after, and not both are 0 before. Assumes nothing.
 use Rattle.std.proofs.Common.{max, ◌≡◌, ℕ, zero, suc, ◌+◌, ◌-◌, ◌*◌, ◌<◌, ◌≤◌, true, eqb, refl, sym, ap, ◌∙◌, ⊎_elim, suc-mul, mod-lt, div-add-mod', div-mul-le_self, mul_comm, arith}
 use Rattle.std.proofs.lemmas.Bool.{cases_lt, cases_eq, eq-eqb, eqb-true, ne_eqb}
+use Rattle.fewest.specs.Rounds.{divided_down, divided_up}
 use Rattle.fewest.specs.Counting.{total, count, one_if}
 use Rattle.fewest.proofs.Counting.{total_ext, total_le, total_add, total_zero, total_at_most, count_one}
 use Rattle.fewest.proofs.NoFewer.{rooms_enough, rooms_within}
 use Rattle.placing.proofs.FreeRounds.{count_some}
-use Rattle.balance.specs.Sizes.{fullest, emptiest, uneven, rounded_down, rounded_up, far}
+use Rattle.balance.specs.Sizes.{fullest, emptiest, uneven, far, far_of}
 use Rattle.balance.proofs.Extremes.{fullest_is, emptiest_is, uneven_is}
 
 -- one of r rounds is z
@@ -66,8 +67,8 @@ pub record OneMoved (r : ℕ) (f g : ℕ → ℕ) (a b : ℕ) : Type 0 where
   pub rest : (c : ℕ) → (c ≡ a → ⊥) → (c ≡ b → ⊥) → g c ≡ f c
 
 -- a round is a, or b, or another one
-among : {X : Type 0} (a b c : ℕ) → (c ≡ a → X) → (c ≡ b → X) → ((c ≡ a → ⊥) → (c ≡ b → ⊥) → X) → X
-among a b c one other rest = ⊎_elim one (λ u. ⊎_elim other (λ v. rest u v) (cases_eq c b)) (cases_eq c a)
+which_round : {X : Type 0} (a b c : ℕ) → (c ≡ a → X) → (c ≡ b → X) → ((c ≡ a → ⊥) → (c ≡ b → ⊥) → X) → X
+which_round a b c one other rest = ⊎_elim one (λ u. ⊎_elim other (λ v. rest u v) (cases_eq c b)) (cases_eq c a)
 
 module _ (r : ℕ) (f g : ℕ → ℕ) (a b : ℕ) (moved : OneMoved r f g a b) where
   -- there are as many meetings as before
@@ -80,7 +81,7 @@ module _ (r : ℕ) (f g : ℕ → ℕ) (a b : ℕ) (moved : OneMoved r f g a b) 
     where
       each : (c : ℕ) → g c + one_if (eqb c a) ≡ f c + one_if (eqb c b)
       each c =
-          among a b c
+          which_round a b c
           (λ e. omega (arith, at_place c a e, elsewhere c b (λ d. moved.different (sym e ∙ d)), ap f e, ap g e, moved.taken))
           (λ e. omega (arith, at_place c b e, elsewhere c a (λ d. moved.different (sym d ∙ e)), ap f e, ap g e, moved.given))
           (λ u v. omega (arith, elsewhere c a u, elsewhere c b v, moved.rest c u v))
@@ -91,7 +92,7 @@ module _ (r : ℕ) (f g : ℕ → ℕ) (a b : ℕ) (moved : OneMoved r f g a b) 
     where
       each : (c : ℕ) → (g c - h) + one_if (eqb c a) ≡ f c - h
       each c =
-          among a b c
+          which_round a b c
           (λ e. omega (arith, at_place c a e, ap f e, ap g e, moved.taken))
           (λ e. omega (arith, elsewhere c a (λ d. moved.different (sym d ∙ e)), ap f e, ap g e, moved.given))
           (λ u v. omega (arith, elsewhere c a u, moved.rest c u v))
@@ -102,7 +103,7 @@ module _ (r : ℕ) (f g : ℕ → ℕ) (a b : ℕ) (moved : OneMoved r f g a b) 
     where
       each : (c : ℕ) → (l - g c) + one_if (eqb c b) ≡ l - f c
       each c =
-          among a b c
+          which_round a b c
           (λ e. omega (arith, elsewhere c b (λ d. moved.different (sym e ∙ d)), ap f e, ap g e, moved.taken))
           (λ e. omega (arith, at_place c b e, ap f e, ap g e, moved.given))
           (λ u v. omega (arith, elsewhere c b v, moved.rest c u v))
@@ -110,7 +111,7 @@ module _ (r : ℕ) (f g : ℕ → ℕ) (a b : ℕ) (moved : OneMoved r f g a b) 
   -- what is h at most stays so, where b was below h
   stays_within : (h : ℕ) → f b < h → ((c : ℕ) → c < r → f c ≤ h) → (c : ℕ) → c < r → g c ≤ h
   stays_within h low most c k =
-      among a b c
+      which_round a b c
       (λ e. omega (arith, ap g e, moved.taken, most a moved.one))
       (λ e. omega (arith, ap g e, moved.given))
       (λ u v. omega (arith, moved.rest c u v, most c k))
@@ -118,7 +119,7 @@ module _ (r : ℕ) (f g : ℕ → ℕ) (a b : ℕ) (moved : OneMoved r f g a b) 
   -- and what is l at least, where a was above l
   stays_from : (l : ℕ) → l < f a → ((c : ℕ) → c < r → l ≤ f c) → (c : ℕ) → c < r → l ≤ g c
   stays_from l high least c k =
-      among a b c
+      which_round a b c
       (λ e. omega (arith, ap g e, moved.taken))
       (λ e. omega (arith, ap g e, moved.given, least b moved.other))
       (λ u v. omega (arith, moved.rest c u v, least c k))
@@ -138,19 +139,15 @@ module _ (r : ℕ) (f g : ℕ → ℕ) (a b : ℕ) (moved : OneMoved r f g a b) 
       trans_le u v = omega arith
 
 -- rounded up, there is place for all; rounded down, all places are filled; and the two differ by one at most
-up_is : (m r : ℕ) → 1 ≤ r → m ≤ r * rounded_up m r
-up_is m r some = let enough = rooms_enough m r (rounded_up m r) some (omega arith) in omega (arith, mul_comm r (rounded_up m r))
+up_is : (m r : ℕ) → 1 ≤ r → m ≤ r * divided_up m r
+up_is m r some = let enough = rooms_enough m r (divided_up m r) some (omega arith) in omega (arith, mul_comm r (divided_up m r))
 
-down_is : (m r : ℕ) → r * rounded_down m r ≤ m
-down_is m r = omega (arith, div-mul-le_self m r, mul_comm r (rounded_down m r))
+down_is : (m r : ℕ) → r * divided_down m r ≤ m
+down_is m r = omega (arith, div-mul-le_self m r, mul_comm r (divided_down m r))
 
-up_near_down : (m r : ℕ) → 1 ≤ r → rounded_up m r ≤ suc (rounded_down m r)
+up_near_down : (m r : ℕ) → 1 ≤ r → divided_up m r ≤ suc (divided_down m r)
 up_near_down m r some =
-    rooms_within m r (suc (rounded_down m r)) some (omega (arith, suc-mul (rounded_down m r) r, div-add-mod' m r, mod-lt m some))
-
--- how far the rounds are from even, where there are m meetings
-abbrev far_of : ℕ → ℕ → (ℕ → ℕ) → ℕ
-far_of m r f = max (total (λ c. f c - rounded_up m r) r) (total (λ c. rounded_down m r - f c) r)
+    rooms_within m r (suc (divided_down m r)) some (omega (arith, suc-mul (divided_down m r) r, div-add-mod' m r, mod-lt m some))
 
 -- AN EXCHANGE IS ONE STEP NEARER TO EVEN
 pub nearer : (r : ℕ) (f g : ℕ → ℕ) → uneven r f ≡ true → OneMoved r f g (fullest r f) (emptiest r f) → suc (far r g) ≡ far r f
@@ -160,21 +157,21 @@ nearer r f g apart moved =
     let least = (emptiest_is r f some).1 in
     let two = uneven_is r f apart in
     ap (λ m. suc (far_of m r g)) (total_kept r f g (fullest r f) (emptiest r f) moved)
-    ∙ one_nearer r f g (fullest r f) (emptiest r f) moved (rounded_up (total f r) r) (rounded_down (total f r) r) (up_near_down (total f r) r some) most least two (low some least two) (high most two)
+    ∙ one_nearer r f g (fullest r f) (emptiest r f) moved (divided_up (total f r) r) (divided_down (total f r) r) (up_near_down (total f r) r some) most least two (low some least two) (high most two)
   where
-    low : 1 ≤ r → ((c : ℕ) → c < r → f (emptiest r f) ≤ f c) → f (emptiest r f) + 2 ≤ f (fullest r f) → f (emptiest r f) < rounded_up (total f r) r
+    low : 1 ≤ r → ((c : ℕ) → c < r → f (emptiest r f) ≤ f c) → f (emptiest r f) + 2 ≤ f (fullest r f) → f (emptiest r f) < divided_up (total f r) r
     low some least two =
         ⊎_elim
         (λ below. below)
-        (λ from. absurd (omega (arith, up_is (total f r) r some, more_than r (rounded_up (total f r) r) f (fullest r f) moved.one (λ c k. omega (arith, least c k)) (omega arith))))
-        (cases_lt (f (emptiest r f)) (rounded_up (total f r) r))
+        (λ from. absurd (omega (arith, up_is (total f r) r some, more_than r (divided_up (total f r) r) f (fullest r f) moved.one (λ c k. omega (arith, least c k)) (omega arith))))
+        (cases_lt (f (emptiest r f)) (divided_up (total f r) r))
 
-    high : ((c : ℕ) → c < r → f c ≤ f (fullest r f)) → f (emptiest r f) + 2 ≤ f (fullest r f) → rounded_down (total f r) r < f (fullest r f)
+    high : ((c : ℕ) → c < r → f c ≤ f (fullest r f)) → f (emptiest r f) + 2 ≤ f (fullest r f) → divided_down (total f r) r < f (fullest r f)
     high most two =
         ⊎_elim
         (λ above. above)
-        (λ within. absurd (omega (arith, down_is (total f r) r, less_than r (rounded_down (total f r) r) f (emptiest r f) moved.other (λ c k. omega (arith, most c k)) (omega arith))))
-        (cases_lt (rounded_down (total f r) r) (f (fullest r f)))
+        (λ within. absurd (omega (arith, down_is (total f r) r, less_than r (divided_down (total f r) r) f (emptiest r f) moved.other (λ c k. omega (arith, most c k)) (omega arith))))
+        (cases_lt (divided_down (total f r) r) (f (fullest r f)))
 
 -- even rounds have q meetings at most, if so many for each are enough for all
 pub even_within : (r q : ℕ) (f : ℕ → ℕ) → ((a b : ℕ) → a < r → b < r → f a ≤ suc (f b)) → total f r ≤ r * q → (c : ℕ) → c < r → f c ≤ q
@@ -187,6 +184,6 @@ even_within r q f even enough c h =
 -- the rounds are no farther from even than there are meetings
 pub far_below : (r : ℕ) (f : ℕ → ℕ) → far r f ≤ total f r
 far_below r f =
-    let above = total_le (λ c. f c - rounded_up (total f r) r) f r (λ c k. omega arith) in
-    let below = total_at_most (λ c. rounded_down (total f r) r - f c) (rounded_down (total f r) r) r (λ c k. omega arith) in
+    let above = total_le (λ c. f c - divided_up (total f r) r) f r (λ c k. omega arith) in
+    let below = total_at_most (λ c. divided_down (total f r) r - f c) (divided_down (total f r) r) r (λ c k. omega arith) in
     omega (arith, down_is (total f r) r)

@@ -1,15 +1,16 @@
 -- One turn of looking: as long as all meetings of the two rounds with lower numbers are in parts passed over, looking from here
 -- on gives what looking from the start gives. Assumes nothing.
 use Rattle.std.proofs.Common.{◌≡◌, ℕ, zero, suc, ◌+◌, ◌-◌, ◌<◌, ◌≤◌, Bool, true, false, cond, not, ◌&&◌, List, ◌++◌, length, get_or, sym, refl, ap, ◌∙◌, ⊎_elim, arith}
-use Rattle.std.proofs.lemmas.Bool.{and_from, cases_lt, cond-true, cond-false, or_right}
+use Rattle.std.proofs.lemmas.Bool.{and_from, cases_lt, cond-true, cond-false}
 use Rattle.std.proofs.lemmas.List.{append-nil, get_or_default}
 use Rattle.chains.specs.declared.found.Found.{Found}
 use Rattle.meetings.specs.declared.numbers.Side.TheVariants.{Groups, Stations}
-use Rattle.chains.specs.Chains.{Two, in_two, nothing, holds, with_one, with_all, walked, chain, part}
+use Rattle.chains.specs.Chains.{Two, in_two, holds, with_one, with_all, walked, chain, part}
 use Rattle.chains.specs.Finding.{Finds, among_all, found_in}
-use Rattle.chains.proofs.Members.{all_append, all_before, first_held, in_all}
+use Rattle.chains.proofs.Members.{first_held}
 use Rattle.balance.specs.Looking.{looked, look, look_from, one_more}
 use Rattle.balance.specs.OnBoard.{Looks}
+use Rattle.balance.proofs.Passed.{in_back, in_front}
 use Rattle.balance.specs.Ordered.{Member, InOrder}
 
 -- all meetings of the two rounds before meeting i are in these parts
@@ -32,14 +33,10 @@ look_on t is (suc k) left e seen =
     look_on t is k (suc left) (omega arith) (λ j member l. seen j member (omega arith))
     ∙ left_alone t left k is (λ there. seen k (omega arith, there) (omega arith))
 
--- who was seen still is, with more parts passed over
-seen_more : (is js : List ℕ) (j : ℕ) → holds is j ≡ true → holds (is ++ js) j ≡ true
-seen_more is js j h = ap (λ f. f j) (all_append nothing is js) ∙ all_before (holds is) js j h
-
--- and the meeting whose part was looked at is seen
+-- the meeting whose part was looked at is seen
 part_seen : (t : Two) (is : List ℕ) (z : ℕ) → holds (is ++ part t (holds is) z) z ≡ true
 part_seen t is z =
-    ap (λ f. f z) (all_append nothing is (part t (holds is) z)) ∙ in_all (holds is) (part t (holds is) z) z ∙ or_right (holds is z) (holds (part t (holds is) z) z) (first_held z (walked t (with_one (holds is) z) Groups z ++ walked t (with_all (holds is) (chain t (holds is) z)) Stations z))
+    in_back is (part t (holds is) z) z (first_held z (walked t (with_one (holds is) z) Groups z ++ walked t (with_all (holds is) (chain t (holds is) z)) Stations z))
 
 module _ (t : Two) (z : ℕ) (is : List ℕ) (member : Member t z) (seen : Seen t z is) (new : holds is z ≡ false) where
   -- the part of a meeting that was not seen is looked at
@@ -62,7 +59,7 @@ module _ (t : Two) (z : ℕ) (is : List ℕ) (member : Member t z) (seen : Seen 
       after : Seen t (suc z) (is ++ part t (holds is) z)
       after j there l =
           ⊎_elim
-          (λ before. seen_more is (part t (holds is) z) j (seen j there before))
+          (λ before. in_front is (part t (holds is) z) j (seen j there before))
           (λ same. let e : j ≡ z = omega arith in ap (holds (is ++ part t (holds is) z)) e ∙ part_seen t is z)
           (cases_lt j z)
 
@@ -102,7 +99,7 @@ module _ (t : Two) (v w : Found) (os : List ℕ) (p : ℕ) (order : InOrder t os
         among = more.among ∙ so_far.among;
         rule = ap (look_from t t.many 0) more.list ∙ sym (passes t (get_or os p 0) (found_in w) member_at (all_seen (get_or os p 0) (λ h. omega arith)) new out) ∙ so_far.rule;
         seen = λ q h long. ap (λ l. holds l (get_or os q 0)) more.list ∙ ⊎_elim
-            (λ before. seen_more (found_in w) (part t (holds (found_in w)) (get_or os p 0)) (get_or os q 0) (so_far.seen q before long))
+            (λ before. in_front (found_in w) (part t (holds (found_in w)) (get_or os p 0)) (get_or os q 0) (so_far.seen q before long))
             (λ last. let e : q ≡ p = omega arith in ap (λ x. holds (found_in w ++ part t (holds (found_in w)) (get_or os p 0)) (get_or os x 0)) e ∙ part_seen t (found_in w) (get_or os p 0))
             (cases_lt q p);
       }

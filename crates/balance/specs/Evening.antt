@@ -25,6 +25,11 @@ abbrev pub exchanges : ℕ → List Meeting → ℕ → Placed → Placed
 exchanges r ms zero p = p
 exchanges r ms (suc left) p = cond (uneven r (size p.rounds)) (exchanges r ms left (one_exchange r ms p)) p
 
+-- how many exchanges these are
+abbrev pub number_of_exchanges : ℕ → List Meeting → ℕ → Placed → ℕ
+number_of_exchanges r ms zero p = 0
+number_of_exchanges r ms (suc left) p = cond (uneven r (size p.rounds)) (suc (number_of_exchanges r ms left (one_exchange r ms p))) 0
+
 -- EVENING OUT: exchanges while the rounds are uneven; there are no more than the rounds are far from even
 abbrev pub even_out : ℕ → List Meeting → Placed → Placed
 even_out r ms p = exchanges r ms (far r (size p.rounds)) p

@@ -33,7 +33,7 @@ abbrev pub RoomForTwo : Shape → ℕ → Type 0
 RoomForTwo z room = parties_of Groups z + parties_of Groups z ≤ room
 
 -- two rounds of the board d can be exchanged on the part that looking finds, v has found nothing yet, and there is room
-pub record Exchanges (d : Board) (v : Found) (room : ℕ) (r : TwoRounds) : Type 0 where
+pub record CanExchange (d : Board) (v : Found) (room : ℕ) (r : TwoRounds) : Type 0 where
   pub sound : Sound (two_on d r)
   pub exchange : Exchangeable (meetings_on d) d.shape (rounds_on d) (look (two_on d r)).taken r.a.0 r.b.0
   pub unused : Unused v (length (meetings_on d))
@@ -47,7 +47,7 @@ pub record ExchangedOn (d e : Board) (v w : Found) (r : TwoRounds) (counted : �
 
 -- what evening out asks: the meetings of the board d have one of as many rounds as there are sizes, or none, and these are their
 -- sizes; v has found nothing yet, and there is room
-pub record Uneven (d : Board) (ns : List ℕ) (v : Found) (room : ℕ) : Type 0 where
+pub record ReadyToEven (d : Board) (ns : List ℕ) (v : Found) (room : ℕ) : Type 0 where
   pub plan : Partial (length ns) (meetings_on d) (rounds_on d)
   pub within : ManyWithin d.shape (length ns)
   pub counted : ns ≡ sizes_of (length ns) (rounds_on d)

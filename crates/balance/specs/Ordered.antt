@@ -8,7 +8,7 @@ use Rattle.chains.specs.Chains.{Two, in_two}
 abbrev pub Member : Two → ℕ → Type 0
 Member t i = (i < t.many) × (in_two t i ≡ true)
 
--- just the meetings of the two rounds, by rising number
+-- each entry is a meeting of the two rounds, each of these is an entry, and numbers do not fall
 pub record InOrder (t : Two) (is : List ℕ) : Type 0 where
   pub each : All (Member t) is
   pub all : (i : ℕ) → Member t i → Contains is i

@@ -1,9 +1,10 @@
 -- How many meetings each round has, the fullest and the emptiest, and how far the rounds are from even. Definitions; assumes
 -- nothing.
-use Rattle.std.specs.Prelude.{ℕ, ◌+◌, ◌-◌, ◌/◌, ◌≡◌, ◌<◌, ◌≤◌, max, Bool, true, false, Option, MatchOption, Contains, List, map, length, ◌==◌, nat_lt, nat_le, slice_index}
+use Rattle.std.specs.Prelude.{ℕ, ◌+◌, ◌-◌, ◌≡◌, ◌<◌, ◌≤◌, max, Bool, true, false, Option, MatchOption, Contains, List, map, length, ◌==◌, nat_lt, nat_le, slice_index}
 use Rattle.std.specs.List.{range_with_len}
 use Rattle.fewest.specs.Counting.{total, count}
 use Rattle.fewest.specs.Plans.{in_round}
+use Rattle.fewest.specs.Rounds.{divided_down, divided_up}
 use Rattle.chains.specs.declared.neighbours.TwoRounds.{TwoRounds}
 use Rattle.chains.specs.Lowest.{lowest}
 
@@ -32,17 +33,14 @@ emptiest r f = unbeaten nat_lt f r
 abbrev pub uneven : ℕ → (ℕ → ℕ) → Bool
 uneven r f = nat_le (f (emptiest r f) + 2) (f (fullest r f))
 
--- meetings divided by rounds, rounded down and up
-abbrev pub rounded_down : ℕ → ℕ → ℕ
-rounded_down m r = m / r
+-- the larger of two sums, where there are m meetings: how far the rounds lie above meetings divided by rounds, rounded up, and how
+-- far they lie below it, rounded down
+abbrev pub far_of : ℕ → ℕ → (ℕ → ℕ) → ℕ
+far_of m r f = max (total (λ c. f c - divided_up m r) r) (total (λ c. divided_down m r - f c) r)
 
-abbrev pub rounded_up : ℕ → ℕ → ℕ
-rounded_up m r = (m + (r - 1)) / r
-
--- HOW FAR FROM EVEN: the larger of two sums, how far the rounds lie above meetings divided by rounds, rounded up, and how far
--- they lie below it, rounded down
+-- HOW FAR FROM EVEN: that for the meetings that have one of r rounds
 abbrev pub far : ℕ → (ℕ → ℕ) → ℕ
-far r f = max (total (λ c. f c - rounded_up (total f r) r) r) (total (λ c. rounded_down (total f r) r - f c) r)
+far r f = far_of (total f r) r f
 
 -- the greatest of some numbers, and the least
 pub record Greatest (xs : List ℕ) (x : ℕ) : Type 0 where
@@ -54,11 +52,11 @@ pub record Least (xs : List ℕ) (x : ℕ) : Type 0 where
   pub one : 1 ≤ length xs → Contains xs x
 
 -- the fullest and the emptiest of r rounds
-pub record Extremes (r : ℕ) (f : ℕ → ℕ) (t : TwoRounds) : Type 0 where
+pub record UnevenRounds (r : ℕ) (f : ℕ → ℕ) (t : TwoRounds) : Type 0 where
   pub fullest : t.a.0 ≡ fullest r f
   pub emptiest : t.b.0 ≡ emptiest r f
   pub uneven : uneven r f ≡ true
 
 -- these, if they are uneven
 abbrev pub IfUneven : ℕ → (ℕ → ℕ) → Option TwoRounds → Type 0
-IfUneven r f o = MatchOption o (uneven r f ≡ false) (Extremes r f)
+IfUneven r f o = MatchOption o (uneven r f ≡ false) (UnevenRounds r f)

@@ -10,7 +10,7 @@ use Rattle.chains.specs.Statements.{Once, PartOf, in_part}
 use Rattle.placing.specs.Putting.{Placed}
 use Rattle.balance.specs.Looking.{Looked, look}
 use Rattle.balance.specs.Sizes.{size, fullest, emptiest, uneven, far}
-use Rattle.balance.specs.Evening.{exchanges, even_out, one_exchange}
+use Rattle.balance.specs.Evening.{exchanges, even_out, number_of_exchanges, one_exchange}
 
 -- just one more of these meetings is in a than in b
 abbrev pub OneMore : Two → List ℕ → Type 0
@@ -63,11 +63,13 @@ OneExchange =
     uneven r (size p.rounds) ≡ true →
     Exchanged r ms p (one_exchange r ms p)
 
--- EVENING OUT ENDS by itself: to go on for longer changes nothing more
+-- EVENING OUT ENDS by itself: to go on for longer changes nothing more, and there are no more exchanges than the rounds are far
+-- from even
 abbrev pub Ends : Type 0
 Ends =
     (r more : ℕ) (ms : List Meeting) (p : Placed) → r ≤ none → length ms ≤ none → Partial r ms p.rounds →
-    exchanges r ms (far r (size p.rounds) + more) p ≡ even_out r ms p
+    (exchanges r ms (far r (size p.rounds) + more) p ≡ even_out r ms p)
+    × (number_of_exchanges r ms (far r (size p.rounds) + more) p ≤ far r (size p.rounds))
 
 -- what evening out leaves: a partial plan in which the same meetings have a round, and even; each exchange takes one look at most
 -- for each meeting of two rounds, and these have n + k meetings at most

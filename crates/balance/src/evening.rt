@@ -4,7 +4,7 @@ ghost use Rattle.fewest.specs.Plans.{none};
 ghost use Rattle.chains.specs.Boards.{meetings_on, rounds_on};
 ghost use Rattle.placing.specs.Putting.{placed};
 ghost use Rattle.balance.specs.Evening.{even_out};
-ghost use Rattle.balance.specs.OnBoard.{EvensOn, ExchangedOn, Exchanges, Uneven};
+ghost use Rattle.balance.specs.OnBoard.{CanExchange, EvensOn, ExchangedOn, ReadyToEven};
 ghost use Rattle.balance.specs.Statements.{EvenedOut};
 
 use crate::looks::look;
@@ -20,7 +20,7 @@ fn exchange_between(
     ordered: &mut Vec<u16>,
     found: &mut Found,
 ) -> u64
-    requires { Exchanges board.old found.old (vec_capacity ordered.old) rounds }
+    requires { CanExchange board.old found.old (vec_capacity ordered.old) rounds }
     ensures exchanged { ExchangedOn board.old board.new found.old found.new rounds result }
     ensures few { result ≤ none }
     ensures room { vec_capacity ordered.new ≡ vec_capacity ordered.old }
@@ -43,7 +43,7 @@ pub fn even_out(
     ordered: &mut Vec<u16>,
     found: &mut Found,
 ) -> u64
-    requires { Uneven board.old sizes.old found.old (vec_capacity ordered.old) }
+    requires { ReadyToEven board.old sizes.old found.old (vec_capacity ordered.old) }
     ensures rule { EvensOn board.old board.new sizes.old sizes.new found.old found.new (even_out (length sizes.old) (meetings_on board.old) (placed (rounds_on board.old) 0)) result }
     ensures evened { EvenedOut board.old.shape.groups board.old.shape.stations (length sizes.old) (meetings_on board.old) (placed (rounds_on board.old) 0) (placed (rounds_on board.new) result) }
     ensures few { result ≤ none * none }

@@ -1,7 +1,7 @@
 // Looking for a part with one more meeting in one round than in another.
 ghost use Rattle.std.specs.Prelude.{◌≡◌, ℕ, ◌<◌, true, false, ◌++◌, length};
 ghost use Rattle.chains.specs.Boards.{InTwo, meetings_on, rounds_on, two_on};
-ghost use Rattle.chains.specs.Chains.{Closed, Sound, holds, part};
+ghost use Rattle.chains.specs.Chains.{holds, part};
 ghost use Rattle.chains.specs.Exchanges.{among};
 ghost use Rattle.chains.specs.Finding.{Finds, Unused, among_all, found_in};
 ghost use Rattle.chains.specs.Rows.{WithinRows};

@@ -1,5 +1,5 @@
 // How many meetings each round has, and the fullest and the emptiest.
-ghost use Rattle.std.specs.Prelude.{◌≡◌, ℕ, ◌+◌, ◌-◌, ◌<◌, ◌≤◌, length, ◌==◌, ◌≢◌, replicate, slice_index, slice_set, position};
+ghost use Rattle.std.specs.Prelude.{◌≡◌, ◌+◌, ◌-◌, ◌<◌, ◌≤◌, length, ◌==◌, ◌≢◌, replicate, slice_index, slice_set, position};
 ghost use Rattle.fewest.specs.Plans.{none};
 ghost use Rattle.chains.specs.Boards.{rounds_on};
 ghost use Rattle.chains.specs.Partial.{Unless};
@@ -44,14 +44,14 @@ fn first_of(sizes: &[u16], size: u16) -> Option<usize>
     sizes.iter().position(|other| *other == size)
 }
 
-// The greatest of these numbers, 0 where there are none.
+// The greatest of these numbers, if there are any.
 fn greatest_of(numbers: &[u16]) -> u16
     ensures { Greatest numbers.now result }
 {
     numbers.iter().copied().max().unwrap_or(0)
 }
 
-// The least of these numbers, 0 where there are none.
+// The least of these numbers, if there are any.
 fn least_of(numbers: &[u16]) -> u16
     ensures { Least numbers.now result }
 {

@@ -22,9 +22,16 @@ largest (x ∷ xs) = max x (largest xs)
 abbrev pub busiest : Contents → ℕ
 busiest d = max (largest (numbers Groups d)) (largest (numbers Stations d))
 
+-- a number divided by another, rounded down and up
+abbrev pub divided_down : ℕ → ℕ → ℕ
+divided_down m q = m / q
+
+abbrev pub divided_up : ℕ → ℕ → ℕ
+divided_up m q = (m + (q - 1)) / q
+
 -- meetings divided by rooms, rounded up
 abbrev pub rounds_by_rooms : Contents → ℕ
-rounds_by_rooms d = (length d.meetings + (d.rooms - 1)) / d.rooms
+rounds_by_rooms d = divided_up (length d.meetings) d.rooms
 
 -- THE NUMBER OF ROUNDS
 abbrev pub fewest : Contents → ℕ

@@ -47,7 +47,7 @@ fn report_on(heap: Global, list: &MeetingList) -> Result<Report, Refusal>
         &mut group_rows,
         &mut station_rows,
     )?;
-    let mut of_rounds = nothing(heap, rounds)?;
+    let mut of_rounds = vec![in heap; 0u16; rounds]?;
     count_rounds(&of_meetings, &mut of_rounds);
     Ok(Report {
         planned,

@@ -16,4 +16,4 @@ pub returns-clause-order : goal.returns-clause-order
 returns-clause-order c =
     let d = c.args.board.now in
     let all : parties_of Groups d.shape ≤ c.loop-group.group = omega (arith, c.loop-group-test.false, c.parties-group-end.ensures) in
-    sorted_in_order (two_on d c.args.rounds) c.loop-group.group _ _ (λ i h. omega (arith, all, (side_rows d Groups).parties i h)) c.loop-group.invariant.0 c.sort_unstable.ensures.permutation c.sort_unstable.ensures.sorted
+    sorted_in_order (two_on d c.args.rounds) c.loop-group.group _ _ (λ i h. omega (arith, all, (side_rows d Groups).parties i h)) c.loop-group.invariant.0 c.sort.ensures.permutation c.sort.ensures.sorted
