@@ -1,12 +1,13 @@
 // Planning from bytes: what is refused, in which order, and a day that is accepted.
 use crate::lent::{Lengths, Slices};
+use balance::Planned;
 use meetings::read;
 use std::alloc::Global;
 use std::process::Abort;
 use std::test::Fail;
 
-// Three groups, two stations and two rooms; five meetings, which take three rounds.
-const DAY: [u8; 15] = [3, 2, 2, 5, 0, 0, 0, 0, 1, 1, 0, 2, 0, 2, 1];
+// Three groups, two stations and a room; three meetings, which take three rounds.
+const DAY: [u8; 11] = [3, 2, 1, 3, 0, 0, 0, 1, 1, 2, 0];
 
 // The bytes are refused by number and place, and nothing lent has changed.
 fn check_refused(
@@ -49,11 +50,11 @@ fn bytes_are_refused_before_slices(rt: HostRuntime) -> Result<(), Fail> {
     for (bytes, right) in cases {
         check_refused(&rt, rt.alloc(), bytes, Lengths::new(1, 2, 1), right)?;
     }
-    // the slices in their order; 5, 9 and 6 entries are just enough
+    // the slices in their order; 3, 9 and 6 entries are just enough
     let short = [
-        (Lengths::new(4, 8, 5), 0usize),
-        (Lengths::new(5, 8, 5), 1),
-        (Lengths::new(5, 9, 5), 2),
+        (Lengths::new(2, 8, 5), 0usize),
+        (Lengths::new(3, 8, 5), 1),
+        (Lengths::new(3, 9, 5), 2),
     ];
     for (lengths, place) in short {
         check_refused(&rt, rt.alloc(), &DAY, lengths, (5, place))?;
@@ -65,11 +66,18 @@ fn bytes_are_refused_before_slices(rt: HostRuntime) -> Result<(), Fail> {
 fn bytes_are_planned_as_their_list(rt: HostRuntime) -> Result<(), Fail> {
     let heap = rt.alloc();
     let list = read(heap, &DAY)?;
-    let lengths = Lengths::new(7, 11, 8);
+    let lengths = Lengths::new(5, 11, 8);
     let mut by_list = Slices::new(heap, lengths)?;
     let mut by_bytes = Slices::new(heap, lengths)?;
     let planned = by_bytes.plan_bytes(heap, &DAY)?;
-    assert_eq!(rt; planned.rounds, 3);
+    // one room: the second meeting keeps round 0, and the first goes to round 2
+    assert_eq!(rt;
+        planned,
+        Planned {
+            rounds: 3,
+            looks: 3 + 1
+        }
+    );
     assert_eq!(rt; planned, by_list.plan(heap, &list)?);
     assert_eq!(rt; by_bytes, by_list);
     Ok(())

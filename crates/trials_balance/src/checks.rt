@@ -1,7 +1,8 @@
 // Whether a list is planned as it should be.
 use crate::lent::{Lengths, Slices};
+use crate::number::number_of_rounds;
 use crate::plans::is_plan;
-use crate::rule::{PartialPlan, number_of_rounds};
+use crate::rule::PartialPlan;
 use balance::Planned;
 use meetings::{MeetingList, Refusal, read};
 use std::alloc::Global;

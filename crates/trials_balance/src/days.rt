@@ -1,8 +1,32 @@
-// The largest lists.
-use crate::checks::{is_planned, list_of};
+// Each of five groups with each of five stations, and the largest lists.
+use crate::checks::{check_planned, is_planned, list_of, size};
 use crate::lent::{Lengths, Slices};
 use balance::Planned;
 use std::test::Fail;
+
+// Five rooms are full in five rounds, and four rooms in four of seven.
+#[test]
+fn five_by_five(rt: HostRuntime) -> Result<(), Fail> {
+    let heap = rt.alloc();
+    let meetings = (0..25u8)
+        .map(|number| (number / 5, number % 5))
+        .collect::<Vec<_>>(heap)?;
+    // rooms, how many meetings the rounds have, by falling number
+    let cases: [(u8, &[usize]); 2] = [(5, &[5, 5, 5, 5, 5]), (4, &[4, 4, 4, 4, 3, 3, 3])];
+    for (rooms, right) in cases {
+        let list = list_of(heap, 5, 5, rooms, &meetings)?;
+        let mut lent = Slices::new(heap, Lengths::new(25, 35, 35))?;
+        let many = lent.plan(heap, &list)?.rounds;
+        let mut sizes = (0..many)
+            .map(|round| size(&lent.rounds, round))
+            .collect::<Vec<_>>(heap)?;
+        sizes.sort_unstable();
+        sizes.reverse();
+        assert_eq!(rt; sizes.as_slice(), right);
+        check_planned(&rt, heap, &list, Lengths::new(25, 35, 35))?;
+    }
+    Ok(())
+}
 
 // 4,000 meetings of one pair have a round each, in their order.
 #[test]
@@ -40,7 +64,6 @@ fn full_days(rt: HostRuntime) -> Result<(), Fail> {
         (1, 34, 118, 38695),
         (1777, 34, 118, 20214),
         (1, 1, 4000, 4000 + 3966),
-        (1777, 1, 4000, 7961),
     ];
     for (step, rooms, rounds, looks) in days {
         let meetings = (0..4000u16)

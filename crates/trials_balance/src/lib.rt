@@ -12,6 +12,8 @@ mod days;
 mod evening;
 #[cfg(test)]
 mod lent;
+#[cfg(test)]
+mod number;
 mod plans;
 #[cfg(test)]
 mod put_ways;

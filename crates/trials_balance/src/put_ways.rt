@@ -1,5 +1,6 @@
 // Other ways to put meetings in. Each answers how many rounds it takes; these have no regard to rooms.
-use crate::rule::{BOTH, PartialPlan, held, number_of_rounds};
+use crate::number::{held, number_of_rounds};
+use crate::rule::{BOTH, PartialPlan};
 use meetings::{Meeting, Round, Side};
 use std::alloc::{AllocError, Global};
 use std::cmp::Reverse;

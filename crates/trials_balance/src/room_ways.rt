@@ -1,7 +1,8 @@
 // Other ways to keep to the rooms. Each answers how many rounds it takes.
 use crate::evening::is_beside;
+use crate::number::number_of_rounds;
 use crate::put_ways::first_fit;
-use crate::rule::{BOTH, PartialPlan, number_of_rounds};
+use crate::rule::{BOTH, PartialPlan};
 use meetings::{Meeting, Round};
 use std::alloc::{AllocError, Global};
 

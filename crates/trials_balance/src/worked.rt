@@ -1,5 +1,5 @@
 // Worked days: the rounds and the looks follow from the rule by hand.
-use crate::checks::{check_planned, is_planned, list_of, size};
+use crate::checks::{is_planned, list_of};
 use crate::lent::{Lengths, Slices};
 use balance::Planned;
 use meetings::MeetingList;
@@ -106,30 +106,6 @@ fn days_that_were_worked(rt: HostRuntime) -> Result<(), Fail> {
     Ok(())
 }
 
-// Each of five groups with each of five stations: five rooms are full in five rounds, and four rooms in four of seven.
-#[test]
-fn five_by_five(rt: HostRuntime) -> Result<(), Fail> {
-    let heap = rt.alloc();
-    let meetings = (0..5u8)
-        .flat_map(|group| (0..5u8).map(move |station| (group, station)))
-        .collect::<Vec<_>>(heap)?;
-    // rooms, how many meetings the rounds have, by falling number
-    let cases: [(u8, &[usize]); 2] = [(5, &[5, 5, 5, 5, 5]), (4, &[4, 4, 4, 4, 3, 3, 3])];
-    for (rooms, sizes) in cases {
-        let list = list_of(heap, 5, 5, rooms, &meetings)?;
-        let mut lent = Slices::new(heap, Lengths::new(25, 35, 35))?;
-        let many = lent.plan(heap, &list)?.rounds;
-        let mut planned = (0..many)
-            .map(|round| size(&lent.rounds, round))
-            .collect::<Vec<_>>(heap)?;
-        planned.sort_unstable();
-        planned.reverse();
-        assert_eq!(rt; planned.as_slice(), sizes);
-        check_planned(&rt, heap, &list, just_enough(&list, many))?;
-    }
-    Ok(())
-}
-
 // The longest chains for so many groups and stations. The last meeting is of group 0, which is busy in round 0, and of station
 // 0, which is busy in round 1. Its chain is in rounds 1 and 0 in turn, so in round 1 it has as many meetings as in round 0 or
 // one more. In round 1 it has no more than there are other groups, and in round 0 no more than there are stations besides
@@ -140,19 +116,21 @@ fn longest_chains(rt: HostRuntime) -> Result<(), Fail> {
     for (groups, stations) in [(2u8, 3u8), (3, 4), (5, 4), (8, 9), (119, 120), (120, 120)] {
         let in_one = (groups - 1).min(stations - 1);
         let in_zero = (groups - 1).min(stations - 2);
-        let meetings = (1..=in_zero)
-            .map(|group| (group, group))
-            .chain([(0, stations - 1)])
-            .chain((1..=in_one).map(|group| (group, group - 1)))
-            .chain([(0, 0)])
-            .collect::<Vec<_>>(heap)?;
+        let mut meetings = Vec::new(heap);
         // those of the chain are exchanged
-        let rounds = (1..=in_zero)
-            .map(|_| 1u16)
-            .chain([0])
-            .chain((1..=in_one).map(|_| 0))
-            .chain([1])
-            .collect::<Vec<_>>(heap)?;
+        let mut rounds = Vec::new(heap);
+        for group in 1..=in_zero {
+            meetings.push((group, group))?;
+            rounds.push(1u16)?;
+        }
+        meetings.push((0, stations - 1))?;
+        rounds.push(0)?;
+        for group in 1..=in_one {
+            meetings.push((group, group - 1))?;
+            rounds.push(0)?;
+        }
+        meetings.push((0, 0))?;
+        rounds.push(1)?;
         let list = list_of(heap, groups, stations, 120, &meetings)?;
         let chain = u64::from(in_zero) + u64::from(in_one);
         check_rounds(&rt, heap, &list, 2, &rounds, chain + 2 + chain)?;
