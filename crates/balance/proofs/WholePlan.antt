@@ -1,5 +1,5 @@
 -- A whole plan: what was put in is evened out, and the looks of the two are added. Assumes nothing.
-use Rattle.std.proofs.Common.{◌≡◌, ℕ, zero, suc, ◌+◌, cond, Bool, true, false, List, length, sym, refl, ap, ◌∙◌, cond, arith}
+use Rattle.std.proofs.Common.{◌≡◌, ℕ, zero, suc, ◌+◌, Bool, true, false, List, length, sym, refl, ap, ◌∙◌, cond, arith}
 use Rattle.meetings.specs.declared.numbers.Meeting.{Meeting}
 use Rattle.chains.specs.declared.board.Board.{Board}
 use Rattle.chains.specs.declared.found.Found.{Found}
