@@ -50,15 +50,15 @@ pub record Unchanged (xs xs' gs gs' ss ss' : List ℕ) : Type 0 where
   pub groups : gs' ≡ gs
   pub stations : ss' ≡ ss
 
--- the looks: for each meeting that is put in one, and at most n + k on its chain; then for each exchange at most n + k, where there
--- are as many exchanges as the rounds are far from even
+-- the looks: for each meeting that is put in one, and at most n + k on its chain; then for each exchange at most n + k, and
+-- there are no more exchanges than the rounds are far from even
 abbrev pub looks_at_most : Contents → ℕ
 looks_at_most d =
     length d.meetings * (1 + d.groups + d.stations)
     + far (fewest d) (size (put_all (fewest d) d.meetings).rounds) * (d.groups + d.stations)
 
--- THE PROMISE: the lent rounds hold a plan, within the rooms and even; no plan within the rooms, by anybody, has fewer rounds; and
--- the looks are bounded
+-- THE PROMISE: the lent rounds hold a plan, within the rooms and even; no plan within the rooms, by anybody, has fewer rounds;
+-- and the looks are bounded
 pub record PlansDay (d : Contents) (xs : List ℕ) (p : Planned) : Type 0 where
   pub plan : Plan p.rounds d.meetings (take (length d.meetings) xs)
   pub within : Rooms d.rooms p.rounds (take (length d.meetings) xs)

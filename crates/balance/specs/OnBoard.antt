@@ -54,8 +54,8 @@ pub record ReadyToEven (d : Board) (ns : List ℕ) (v : Found) (room : ℕ) : Ty
   pub unused : Unused v (length (meetings_on d))
   pub enough : RoomForTwo d.shape room
 
--- the board d becomes e, with the rounds that the rule gives, and the numbers are their sizes; so many looks are counted, and what
--- was found is forgotten
+-- the board d becomes e, with the rounds that the rule gives, and the numbers are their sizes; so many looks are counted, and
+-- what was found is forgotten
 pub record EvensOn (d e : Board) (ns ns' : List ℕ) (v w : Found) (p : Placed) (counted : ℕ) : Type 0 where
   pub board : Becomes d e p.rounds
   pub looks : counted ≡ p.looks

@@ -33,8 +33,8 @@ emptiest r f = unbeaten nat_lt f r
 abbrev pub uneven : ℕ → (ℕ → ℕ) → Bool
 uneven r f = nat_le (f (emptiest r f) + 2) (f (fullest r f))
 
--- the larger of two sums, where there are m meetings: how far the rounds lie above meetings divided by rounds, rounded up, and how
--- far they lie below it, rounded down
+-- the larger of two sums, where there are m meetings: how far the rounds lie above meetings divided by rounds, rounded up, and
+-- how far they lie below it, rounded down
 abbrev pub far_of : ℕ → ℕ → (ℕ → ℕ) → ℕ
 far_of m r f = max (total (λ c. f c - divided_up m r) r) (total (λ c. divided_down m r - f c) r)
 

@@ -24,7 +24,8 @@ PartWithOneMore =
     (i : ℕ) × (is : List ℕ) × PartOf (two ms xs a b) i is × OneMore (two ms xs a b) is
 
 -- what is found where the fuller round is a: the part taken has one more; its lowest meeting is i, and no other part with one
--- more has a lower one; each meeting of the parts looked at is counted once, and these are the parts with meeting i or a lower one
+-- more has a lower one; each meeting of the parts looked at is counted once, and these are the parts with meeting i or a lower
+-- one
 pub record FirstPart (t : Two) (l : Looked) (i : ℕ) : Type 0 where
   pub whole : PartOf t i l.taken
   pub one_more : OneMore t l.taken
