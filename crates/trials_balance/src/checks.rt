@@ -54,7 +54,7 @@ pub(crate) struct Work {
     pub(crate) looked_at: u64,
 }
 
-// A list is planned by the rule, into slices of these lengths.
+// A list is planned by the rule, into slices of these lengths. Answers what the rule had to do for it.
 pub(crate) fn check_planned(
     rt: &impl Abort,
     heap: Global,

@@ -50,10 +50,10 @@ fn meetings_of_one_pair(rt: HostRuntime) -> Result<(), Fail> {
     Ok(())
 }
 
-// 4,000 meetings spread over 120 groups and 120 stations, of which none has more than 34: group by group, where each round
-// fills up before the next, and in a mixed order, where chains are needed. The looks are those of the rule worked by another
-// program. With one room they also follow by hand: putting in group by group fills 34 rounds, and then each of the other
-// 3,966 gets one meeting, which shares nothing with the emptier round.
+// 4,000 meetings spread over 120 groups and 120 stations, of which none has more than 34: in an order in which putting in fills
+// round after round, and in a mixed order, where chains are needed. The looks are those of the rule worked by another program.
+// With one room they follow by hand: putting in fills 34 rounds, and then each of the other 3,966 gets one meeting, since the
+// emptier round is empty. Unproved code takes minutes for these days: give `rt try` more seconds.
 #[test]
 fn full_days(rt: HostRuntime) -> Result<(), Fail> {
     let heap = rt.alloc();

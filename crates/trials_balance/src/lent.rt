@@ -25,6 +25,16 @@ impl Lengths {
             station_rows,
         }
     }
+
+    // Without an entry too many.
+    pub(crate) fn just_enough(list: &MeetingList, rounds: u16) -> Lengths {
+        let many = usize::from(rounds);
+        Lengths {
+            rounds: list.meetings().len(),
+            group_rows: many.saturating_mul(usize::from(list.groups())),
+            station_rows: many.saturating_mul(usize::from(list.stations())),
+        }
+    }
 }
 
 #[derive(PartialEq, Eq, Debug, Drop)]

@@ -1,9 +1,9 @@
 // Other ways to plan look as good at first. On some days they take rounds too many, and planning does not.
 use crate::checks::{is_planned, list_of};
-use crate::lent::Slices;
+use crate::lent::{Lengths, Slices};
 use crate::put_ways::{busiest_first, first_fit, wrong_end};
 use crate::room_ways::{rooms_forgotten, round_by_round, single_moves};
-use crate::worked::{CHAIN_OF_ONE, TWO_CHAINS, TWO_PARTS, just_enough};
+use crate::worked::{CHAIN_OF_ONE, TWO_CHAINS, TWO_PARTS};
 use fewest::fewest_rounds;
 use meetings::MeetingList;
 use std::alloc::{AllocError, Global};
@@ -75,7 +75,7 @@ fn other_ways_take_more_rounds(rt: HostRuntime) -> Result<(), Fail> {
         let list = list_of(heap, 4, 4, rooms, meetings)?;
         assert_eq!(rt; way.rounds(heap, &list)?, by_way, "{way:?}");
         assert_eq!(rt; fewest_rounds(heap, &list)?, many);
-        let mut lent = Slices::new(heap, just_enough(&list, many))?;
+        let mut lent = Slices::new(heap, Lengths::just_enough(&list, many))?;
         assert_eq!(rt; lent.plan(heap, &list)?.rounds, many);
         assert!(rt; is_planned(&list, &lent.rounds, many));
     }

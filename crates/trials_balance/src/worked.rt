@@ -30,16 +30,6 @@ pub(crate) const TWO_CHAINS: [(u8, u8); 9] = [
 // Evening out: round 1 has two meetings of each part, and round 0 one.
 pub(crate) const TWO_PARTS: [(u8, u8); 6] = [(0, 0), (0, 1), (1, 0), (2, 2), (2, 3), (3, 2)];
 
-// Slices without an entry too many.
-pub(crate) fn just_enough(list: &MeetingList, rounds: u16) -> Lengths {
-    let many = usize::from(rounds);
-    Lengths {
-        rounds: list.meetings().len(),
-        group_rows: many.saturating_mul(usize::from(list.groups())),
-        station_rows: many.saturating_mul(usize::from(list.stations())),
-    }
-}
-
 fn check_rounds(
     rt: &impl Abort,
     heap: Global,
@@ -48,7 +38,7 @@ fn check_rounds(
     rounds: &[u16],
     looks: u64,
 ) -> Result<(), Fail> {
-    let mut lent = Slices::new(heap, just_enough(list, many))?;
+    let mut lent = Slices::new(heap, Lengths::just_enough(list, many))?;
     assert_eq!(rt;
         lent.plan(heap, list)?,
         Planned {
@@ -64,7 +54,7 @@ fn check_rounds(
 #[test]
 fn days_that_were_worked(rt: HostRuntime) -> Result<(), Fail> {
     // meetings, rooms, how many rounds, the rounds, the looks; five groups and five stations
-    let cases: [(&[(u8, u8)], u8, u16, &[u16], u64); 11] = [
+    let cases: [(&[(u8, u8)], u8, u16, &[u16], u64); 12] = [
         (&[(0, 0), (0, 1), (1, 0), (1, 1)], 2, 2, &[0, 1, 1, 0], 4),
         (&[(0, 0), (0, 0), (0, 1)], 9, 3, &[0, 1, 2], 3),
         (&[], 4, 0, &[], 0),
@@ -80,6 +70,14 @@ fn days_that_were_worked(rt: HostRuntime) -> Result<(), Fail> {
         (&TWO_CHAINS, 4, 3, &[1, 2, 0, 0, 2, 1, 0, 1, 2], 9 + 2 + 4),
         // all three are put into round 0; meeting 0 goes to round 1, and then meeting 1 to round 2
         (&[(0, 0), (1, 1), (2, 2)], 1, 3, &[1, 2, 0], 3 + 1 + 1),
+        // of two fullest rounds, and of two emptiest, the lower comes first: meeting 0 goes from 0 to 2, and then 2 from 1 to 3
+        (
+            &[(0, 0), (1, 1), (0, 1), (1, 0)],
+            1,
+            4,
+            &[2, 0, 3, 1],
+            4 + 1 + 1,
+        ),
         // meetings 0 and 1 are a part with as many in the one round as in the other, and passed over
         (
             &[(0, 0), (0, 1), (1, 2), (2, 3)],
