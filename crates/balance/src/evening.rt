@@ -1,5 +1,5 @@
 // Evening out the rounds.
-ghost use Rattle.std.specs.Prelude.{◌≡◌, ◌*◌, ◌≤◌, length, vec_capacity};
+ghost use Rattle.std.specs.Prelude.{◌≡◌, ◌*◌, ◌≤◌, [], length, vec_capacity};
 ghost use Rattle.fewest.specs.Plans.{none};
 ghost use Rattle.chains.specs.Boards.{meetings_on, rounds_on};
 ghost use Rattle.placing.specs.Putting.{placed};
@@ -35,8 +35,9 @@ fn exchange_between(
 }
 
 // Evens the rounds out: while the fullest has at least two meetings more than the emptiest, one goes from the one to the other.
-// There are as many rounds as sizes, which are kept. All meetings that had a round have one still, and no two rounds differ by
-// more than one in the end. Answers the looks, one for each meeting of a part looked at.
+// There are as many rounds as sizes, which stay those of the rounds. All meetings that had a round have one still, and no two
+// rounds differ by more than one in the end. The list of two rounds' meetings is lent for its room, and is empty then. Answers
+// the looks, one for each meeting of a part looked at.
 pub fn even_out(
     board: &mut Board<'_>,
     sizes: &mut [u16],
@@ -47,6 +48,7 @@ pub fn even_out(
     ensures rule { EvensOn board.old board.new sizes.old sizes.new found.old found.new (even_out (length sizes.old) (meetings_on board.old) (placed (rounds_on board.old) 0)) result }
     ensures evened { EvenedOut board.old.shape.groups board.old.shape.stations (length sizes.old) (meetings_on board.old) (placed (rounds_on board.old) 0) (placed (rounds_on board.new) result) }
     ensures few { result ≤ none * none }
+    ensures ordered { ordered.new.items ≡ [] }
     ensures room { vec_capacity ordered.new ≡ vec_capacity ordered.old }
 {
     let mut looks = 0;
@@ -54,5 +56,6 @@ pub fn even_out(
         looks += exchange_between(board, rounds, ordered, found);
         move_one(sizes, rounds);
     }
+    ordered.clear();
     looks
 }
