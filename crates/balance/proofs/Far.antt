@@ -1,7 +1,7 @@
 -- How far the rounds are from even falls by one with each exchange between the fullest and the emptiest round. The fullest lies
 -- above meetings divided by rounds, rounded down, and the emptiest below it, rounded up; so each of the two sums falls by one or
 -- is 0 before and after, and not both are 0 before. Assumes nothing.
-use Rattle.std.proofs.Common.{max, ◌≡◌, ℕ, zero, suc, ◌+◌, ◌-◌, ◌*◌, ◌<◌, ◌≤◌, true, eqb, refl, sym, ap, ◌∙◌, ⊎_elim, suc-mul, mod-lt, div-add-mod', div-mul-le_self, mul_comm, arith}
+use Rattle.std.proofs.Common.{◌⊎◌, inl, inr, subst, max, ◌≡◌, ℕ, zero, suc, ◌+◌, ◌-◌, ◌*◌, ◌<◌, ◌≤◌, true, eqb, refl, sym, ap, ◌∙◌, ⊎_elim, suc-mul, mod-lt, div-add-mod', div-mul-le_self, mul_comm, arith}
 use Rattle.std.proofs.lemmas.Bool.{cases_lt, cases_eq, eq-eqb, eqb-true, ne_eqb}
 use Rattle.fewest.specs.Rounds.{divided_down, divided_up}
 use Rattle.fewest.specs.Counting.{total, count, one_if}
@@ -36,26 +36,21 @@ at_place c z e = ap one_if (eq-eqb c z e)
 elsewhere : (c z : ℕ) → (c ≡ z → ⊥) → one_if (eqb c z) ≡ 0
 elsewhere c z e = ap one_if (ne_eqb c z e)
 
--- numbers that are all h at least, and one of them more, are together more than h for each
-more_than : (r h : ℕ) (f : ℕ → ℕ) (a : ℕ) → a < r → ((c : ℕ) → c < r → h ≤ f c) → h < f a → r * h < total f r
-more_than r h f a l least more =
-    let all = total_le (λ c. h + one_if (eqb c a)) f r (λ c k. ⊎_elim (λ e. omega (arith, at_place c a e, ap f e)) (λ e. omega (arith, elsewhere c a e, least c k)) (cases_eq c a)) in
-    let sums = total_add (λ c. h) (λ c. one_if (eqb c a)) r in
-    omega (arith, total_same h r, one_place a r l)
+-- numbers that are nowhere more, and less at one round, are less together
+total_less : (r : ℕ) (u v : ℕ → ℕ) (z : ℕ) → z < r → ((c : ℕ) → c < r → u c ≤ v c) → u z < v z → total u r < total v r
+total_less r u v z l each less =
+    let all = total_le (λ c. u c + one_if (eqb c z)) v r (λ c k. ⊎_elim (λ e. omega (arith, at_place c z e, ap u e, ap v e)) (λ e. omega (arith, elsewhere c z e, each c k)) (cases_eq c z)) in
+    let sums = total_add u (λ c. one_if (eqb c z)) r in
+    omega (arith, one_place z r l)
 
--- numbers that are all l at most, and one of them less, are together less than l for each
-less_than : (r l : ℕ) (f : ℕ → ℕ) (b : ℕ) → b < r → ((c : ℕ) → c < r → f c ≤ l) → f b < l → total f r < r * l
-less_than r l f b h most less =
-    let all = total_at_most (λ c. f c + one_if (eqb c b)) l r (λ c k. ⊎_elim (λ e. omega (arith, at_place c b e, ap f e)) (λ e. omega (arith, elsewhere c b e, most c k)) (cases_eq c b)) in
-    let sums = total_add f (λ c. one_if (eqb c b)) r in
-    omega (arith, one_place b r h)
+-- one number is no more than all together
+one_at_most : (u : ℕ → ℕ) (r z : ℕ) → z < r → u z ≤ total u r
+one_at_most u zero z h = absurd (omega arith)
+one_at_most u (suc r) z h = ⊎_elim (λ before. omega (arith, one_at_most u r z before)) (λ last. let e : z ≡ r = omega arith in omega (arith, ap u e)) (cases_lt z r)
 
--- none lies above h, or below l
-none_above : (r h : ℕ) (f : ℕ → ℕ) → ((c : ℕ) → c < r → f c ≤ h) → total (λ c. f c - h) r ≡ 0
-none_above r h f most = total_ext (λ c. f c - h) (λ c. 0) r (λ c k. omega (arith, most c k)) ∙ total_zero r
-
-none_below : (r l : ℕ) (f : ℕ → ℕ) → ((c : ℕ) → c < r → l ≤ f c) → total (λ c. l - f c) r ≡ 0
-none_below r l f least = total_ext (λ c. l - f c) (λ c. 0) r (λ c k. omega (arith, least c k)) ∙ total_zero r
+-- numbers that are all 0 are 0 together
+total_none : (r : ℕ) (u : ℕ → ℕ) → ((c : ℕ) → c < r → u c ≡ 0) → total u r ≡ 0
+total_none r u none = total_ext u (λ c. 0) r none ∙ total_zero r
 
 -- g is f with one less at a and one more at b
 pub record OneMoved (r : ℕ) (f g : ℕ → ℕ) (a b : ℕ) : Type 0 where
@@ -86,57 +81,56 @@ module _ (r : ℕ) (f g : ℕ → ℕ) (a b : ℕ) (moved : OneMoved r f g a b) 
           (λ e. omega (arith, at_place c b e, elsewhere c a (λ d. moved.different (sym d ∙ e)), ap f e, ap g e, moved.given))
           (λ u v. omega (arith, elsewhere c a u, elsewhere c b v, moved.rest c u v))
 
-  -- the sum above h falls by one, where a was above h and b below it
-  above_falls : (h : ℕ) → h < f a → f b < h → suc (total (λ c. g c - h) r) ≡ total (λ c. f c - h) r
-  above_falls h high low = one_more_in_all r (λ c. f c - h) (λ c. g c - h) a moved.one (λ c k. each c)
+  -- what holds of the two, and of all before, holds of all after
+  kept_each : (P : ℕ → Type 0) → P (g a) → P (g b) → ((c : ℕ) → c < r → P (f c)) → (c : ℕ) → c < r → P (g c)
+  kept_each P one other each c k =
+      which_round a b c (λ e. subst P (sym (ap g e)) one) (λ e. subst P (sym (ap g e)) other) (λ u v. subst P (sym (moved.rest c u v)) (each c k))
+
+  -- a sum over all rounds falls by one where what p adds does so, what q adds stays, and these are a and b in either order
+  falls : (w : ℕ → ℕ) (p q : ℕ) → p < r → (p ≡ q → ⊥) → ((c : ℕ) → (c ≡ p → ⊥) → (c ≡ q → ⊥) → g c ≡ f c) → suc (w (g p)) ≡ w (f p) → w (g q) ≡ w (f q) → suc (total (λ c. w (g c)) r) ≡ total (λ c. w (f c)) r
+  falls w p q here differ rest less same = one_more_in_all r (λ c. w (f c)) (λ c. w (g c)) p here (λ c k. each c)
     where
-      each : (c : ℕ) → (g c - h) + one_if (eqb c a) ≡ f c - h
+      each : (c : ℕ) → w (g c) + one_if (eqb c p) ≡ w (f c)
       each c =
-          which_round a b c
-          (λ e. omega (arith, at_place c a e, ap f e, ap g e, moved.taken))
-          (λ e. omega (arith, elsewhere c a (λ d. moved.different (sym d ∙ e)), ap f e, ap g e, moved.given))
-          (λ u v. omega (arith, elsewhere c a u, moved.rest c u v))
+          which_round p q c
+          (λ e. omega (arith, at_place c p e, ap (λ i. w (f i)) e, ap (λ i. w (g i)) e, less))
+          (λ e. omega (arith, elsewhere c p (λ d. differ (sym d ∙ e)), ap (λ i. w (f i)) e, ap (λ i. w (g i)) e, same))
+          (λ u v. omega (arith, elsewhere c p u, ap w (rest c u v)))
 
-  -- the sum below l, where b was below l and a above it
-  below_falls : (l : ℕ) → l < f a → f b < l → suc (total (λ c. l - g c) r) ≡ total (λ c. l - f c) r
-  below_falls l high low = one_more_in_all r (λ c. l - f c) (λ c. l - g c) b moved.other (λ c k. each c)
-    where
-      each : (c : ℕ) → (l - g c) + one_if (eqb c b) ≡ l - f c
-      each c =
-          which_round a b c
-          (λ e. omega (arith, elsewhere c b (λ d. moved.different (sym e ∙ d)), ap f e, ap g e, moved.taken))
-          (λ e. omega (arith, at_place c b e, ap f e, ap g e, moved.given))
-          (λ u v. omega (arith, elsewhere c b v, moved.rest c u v))
+  -- it falls by one, or it is 0 before and after
+  abbrev FallsOrNone : (ℕ → ℕ) → Type 0
+  FallsOrNone w = (suc (total (λ c. w (g c)) r) ≡ total (λ c. w (f c)) r) ⊎ ((total (λ c. w (f c)) r ≡ 0) × (total (λ c. w (g c)) r ≡ 0))
 
-  -- what is h at most stays so, where b was below h
-  stays_within : (h : ℕ) → f b < h → ((c : ℕ) → c < r → f c ≤ h) → (c : ℕ) → c < r → g c ≤ h
-  stays_within h low most c k =
-      which_round a b c
-      (λ e. omega (arith, ap g e, moved.taken, most a moved.one))
-      (λ e. omega (arith, ap g e, moved.given))
-      (λ u v. omega (arith, moved.rest c u v, most c k))
+  none_either : (w : ℕ → ℕ) → ((c : ℕ) → c < r → w (f c) ≡ 0) → w (g a) ≡ 0 → w (g b) ≡ 0 → FallsOrNone w
+  none_either w all one other = inr (total_none r (λ c. w (f c)) all, total_none r (λ c. w (g c)) (kept_each (λ x. w x ≡ 0) one other all))
 
-  -- and what is l at least, where a was above l
-  stays_from : (l : ℕ) → l < f a → ((c : ℕ) → c < r → l ≤ f c) → (c : ℕ) → c < r → l ≤ g c
-  stays_from l high least c k =
-      which_round a b c
-      (λ e. omega (arith, ap g e, moved.taken))
-      (λ e. omega (arith, ap g e, moved.given, least b moved.other))
-      (λ u v. omega (arith, moved.rest c u v, least c k))
+  -- how far rounds lie above h, where a was the fullest and b below h
+  above_falls : (h : ℕ) → ((c : ℕ) → c < r → f c ≤ f a) → f b < h → FallsOrNone (λ x. x - h)
+  above_falls h most low =
+      ⊎_elim
+      (λ above. inl (falls (λ x. x - h) a b moved.one moved.different moved.rest (omega (arith, moved.taken)) (omega (arith, moved.given))))
+      (λ within. none_either (λ x. x - h) (λ c k. omega (arith, most c k)) (omega (arith, moved.taken)) (omega (arith, moved.given)))
+      (cases_lt h (f a))
+
+  -- how far they lie below l, where b was the emptiest and a above l
+  below_falls : (l : ℕ) → ((c : ℕ) → c < r → f b ≤ f c) → l < f a → FallsOrNone (λ x. l - x)
+  below_falls l least high =
+      ⊎_elim
+      (λ below. inl (falls (λ x. l - x) b a moved.other (λ e. moved.different (sym e)) (λ c u v. moved.rest c v u) (omega (arith, moved.given)) (omega (arith, moved.taken))))
+      (λ from. none_either (λ x. l - x) (λ c k. omega (arith, least c k)) (omega (arith, moved.taken)) (omega (arith, moved.given)))
+      (cases_lt (f b) l)
 
   -- ONE STEP NEARER, for any h and l where h is l + 1 at most
   one_nearer : (h l : ℕ) → h ≤ suc l → ((c : ℕ) → c < r → f c ≤ f a) → ((c : ℕ) → c < r → f b ≤ f c) → f b + 2 ≤ f a → f b < h → l < f a → suc (max (total (λ c. g c - h) r) (total (λ c. l - g c) r)) ≡ max (total (λ c. f c - h) r) (total (λ c. l - f c) r)
   one_nearer h l near most least apart low high =
       ⊎_elim
-      (λ above. ⊎_elim
-      (λ below. omega (arith, above_falls h above low, below_falls l high below))
-      (λ from. let all = λ (c : ℕ) (k : c < r). trans_le from (least c k) in omega (arith, above_falls h above low, none_below r l f all, none_below r l g (stays_from l high all)))
-      (cases_lt (f b) l))
-      (λ within. let all = λ (c : ℕ) (k : c < r). trans_le (most c k) within in omega (arith, below_falls l high (omega arith), none_above r h f all, none_above r h g (stays_within h low all)))
-      (cases_lt h (f a))
+      (λ above. ⊎_elim (λ below. omega (arith, above, below)) (λ none. omega (arith, above, none.0, none.1)) (below_falls l least high))
+      (λ none. ⊎_elim (λ below. omega (arith, below, none.0, none.1)) (λ both. absurd (not_both none.0 both.0)) (below_falls l least high))
+      (above_falls h most low)
     where
-      trans_le : {x y z : ℕ} → x ≤ y → y ≤ z → x ≤ z
-      trans_le u v = omega arith
+      -- else the fullest would be h at most, the emptiest l at least, and two apart
+      not_both : total (λ c. f c - h) r ≡ 0 → total (λ c. l - f c) r ≡ 0 → ⊥
+      not_both above below = omega (arith, one_at_most (λ c. f c - h) r a moved.one, one_at_most (λ c. l - f c) r b moved.other)
 
 -- rounded up, there is place for all; rounded down, all places are filled; and the two differ by one at most
 up_is : (m r : ℕ) → 1 ≤ r → m ≤ r * divided_up m r
@@ -163,21 +157,21 @@ nearer r f g apart moved =
     low some least two =
         ⊎_elim
         (λ below. below)
-        (λ from. absurd (omega (arith, up_is (total f r) r some, more_than r (divided_up (total f r) r) f (fullest r f) moved.one (λ c k. omega (arith, least c k)) (omega arith))))
+        (λ from. absurd (omega (arith, up_is (total f r) r some, total_less r (λ c. divided_up (total f r) r) f (fullest r f) moved.one (λ c k. omega (arith, least c k)) (omega arith), total_same (divided_up (total f r) r) r)))
         (cases_lt (f (emptiest r f)) (divided_up (total f r) r))
 
     high : ((c : ℕ) → c < r → f c ≤ f (fullest r f)) → f (emptiest r f) + 2 ≤ f (fullest r f) → divided_down (total f r) r < f (fullest r f)
     high most two =
         ⊎_elim
         (λ above. above)
-        (λ within. absurd (omega (arith, down_is (total f r) r, less_than r (divided_down (total f r) r) f (emptiest r f) moved.other (λ c k. omega (arith, most c k)) (omega arith))))
+        (λ within. absurd (omega (arith, down_is (total f r) r, total_less r f (λ c. divided_down (total f r) r) (emptiest r f) moved.other (λ c k. omega (arith, most c k)) (omega arith), total_same (divided_down (total f r) r) r)))
         (cases_lt (divided_down (total f r) r) (f (fullest r f)))
 
 -- even rounds have q meetings at most, if so many for each are enough for all
 pub even_within : (r q : ℕ) (f : ℕ → ℕ) → ((a b : ℕ) → a < r → b < r → f a ≤ suc (f b)) → total f r ≤ r * q → (c : ℕ) → c < r → f c ≤ q
 even_within r q f even enough c h =
     ⊎_elim
-    (λ more. absurd (omega (arith, more_than r q f c h (λ e k. omega (arith, even c e h k)) more)))
+    (λ more. absurd (omega (arith, total_less r (λ e. q) f c h (λ e k. omega (arith, even c e h k)) more, total_same q r)))
     (λ within. within)
     (cases_lt q (f c))
 
