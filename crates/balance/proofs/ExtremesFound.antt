@@ -1,13 +1,16 @@
--- The first round with the greatest size is the fullest, and the first with the least is the emptiest. Assumes nothing.
+-- The first round with the largest size is the fullest, and the first with the least is the emptiest. Assumes nothing.
 use Rattle.std.proofs.Common.{◌≡◌, ℕ, ◌<◌, ◌≤◌, eqb, Contains, List, length, get_or, sym, refl, ap, ◌∙◌, subst, ⊎_elim, arith}
 use Rattle.std.specs.List.{position}
 use Rattle.std.proofs.lemmas.Bool.{both_ways, cases_lt, eq-eqb, eqb-true}
 use Rattle.std.proofs.lemmas.List.{get_or_default}
+use Rattle.fewest.specs.Rounds.{largest}
+use Rattle.fewest.proofs.Busiest.{largest_stands}
+use Rattle.fewest.proofs.Numbers.{largest_above}
 use Rattle.chains.specs.Lowest.{lowest}
 use Rattle.chains.specs.Partial.{Unless}
 use Rattle.chains.proofs.Lowest.{lowest_of}
 use Rattle.placing.proofs.Found.{position_lowest}
-use Rattle.balance.specs.Sizes.{Greatest, Least, fullest, emptiest}
+use Rattle.balance.specs.Sizes.{Least, fullest, emptiest}
 use Rattle.balance.proofs.Extremes.{fullest_found, emptiest_found, fullest_is, emptiest_is}
 
 -- the first place of x is what the first place of x must be, 0 where there is none
@@ -29,10 +32,18 @@ module _ (xs : List ℕ) (x place : ℕ) (some : 1 ≤ length xs → Contains xs
   first_place : Unless (length xs) (λ c. c) (position (λ y. eqb y x) xs) place
   first_place = subst (λ n. Unless (length xs) (λ c. c) (position (λ y. eqb y x) xs) n) first_is (position_lowest 0 (λ y. eqb y x) (λ c. eqb (get_or xs c 0) x) xs (length xs) refl (λ c h. refl))
 
-pub greatest_first : (xs : List ℕ) (x : ℕ) → Greatest xs x → Unless (length xs) (λ c. c) (position (λ y. eqb y x) xs) (fullest (length xs) (λ c. get_or xs c 0))
-greatest_first xs x top =
-    first_place xs x _ top.one
-    (λ c h e first. fullest_found (length xs) (λ c. get_or xs c 0) c h (λ i l. omega (arith, top.all i l)) first)
+-- the largest of some numbers is one of them
+one_largest : (xs : List ℕ) → 1 ≤ length xs → Contains xs (largest xs)
+one_largest xs some =
+    ⊎_elim
+    (λ none. (0, some, get_or_default xs 0 (largest xs) 0 some ∙ omega (arith, largest_above xs 0 some)))
+    (λ there. (there.0, there.1, get_or_default xs there.0 (largest xs) 0 there.1 ∙ there.2))
+    (largest_stands xs)
+
+pub largest_first : (xs : List ℕ) → Unless (length xs) (λ c. c) (position (λ y. eqb y (largest xs)) xs) (fullest (length xs) (λ c. get_or xs c 0))
+largest_first xs =
+    first_place xs (largest xs) _ (one_largest xs)
+    (λ c h e first. fullest_found (length xs) (λ c. get_or xs c 0) c h (λ i l. omega (arith, largest_above xs i l)) first)
     (λ none. ap (λ n. fullest n (λ c. get_or xs c 0)) none)
 
 pub least_first : (xs : List ℕ) (x : ℕ) → Least xs x → Unless (length xs) (λ c. c) (position (λ y. eqb y x) xs) (emptiest (length xs) (λ c. get_or xs c 0))

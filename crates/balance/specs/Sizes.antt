@@ -42,11 +42,7 @@ far_of m r f = max (total (λ c. f c - divided_up m r) r) (total (λ c. divided_
 abbrev pub far : ℕ → (ℕ → ℕ) → ℕ
 far r f = far_of (total f r) r f
 
--- the greatest of some numbers, and the least
-pub record Greatest (xs : List ℕ) (x : ℕ) : Type 0 where
-  pub all : (i : ℕ) → i < length xs → slice_index xs i ≤ x
-  pub one : 1 ≤ length xs → Contains xs x
-
+-- the least of some numbers, if there are any
 pub record Least (xs : List ℕ) (x : ℕ) : Type 0 where
   pub all : (i : ℕ) → i < length xs → x ≤ slice_index xs i
   pub one : 1 ≤ length xs → Contains xs x

@@ -3,9 +3,10 @@ ghost use Rattle.std.specs.Prelude.{◌≡◌, ◌+◌, ◌-◌, ◌<◌, ◌≤
 ghost use Rattle.fewest.specs.Plans.{none};
 ghost use Rattle.chains.specs.Boards.{rounds_on};
 ghost use Rattle.chains.specs.Partial.{Unless};
-ghost use Rattle.balance.specs.Sizes.{Greatest, IfUneven, Least, emptiest, fullest, sizes_of};
+ghost use Rattle.balance.specs.Sizes.{IfUneven, Least, emptiest, fullest, sizes_of};
 
 use chains::{Board, TwoRounds};
+use fewest::largest_of;
 use meetings::Round;
 
 // No meetings in any round.
@@ -44,13 +45,6 @@ fn first_of(sizes: &[u16], size: u16) -> Option<usize>
     sizes.iter().position(|other| *other == size)
 }
 
-// The greatest of these numbers, if there are any.
-fn greatest_of(numbers: &[u16]) -> u16
-    ensures { Greatest numbers.now result }
-{
-    numbers.iter().copied().max().unwrap_or(0)
-}
-
 // The least of these numbers, if there are any.
 fn least_of(numbers: &[u16]) -> u16
     ensures { Least numbers.now result }
@@ -64,7 +58,7 @@ fn fullest(sizes: &[u16]) -> Option<Round>
     ensures { Unless (length sizes.now) (λ c. c.0) result (fullest (length sizes.now) (slice_index sizes.now)) }
 {
     // `as`, since it is proved to fit
-    first_of(sizes, greatest_of(sizes)).map(|round| Round(round as u16))
+    first_of(sizes, largest_of(sizes)).map(|round| Round(round as u16))
 }
 
 // The lowest-numbered round with the fewest meetings, none if there are no rounds.

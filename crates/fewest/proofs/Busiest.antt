@@ -9,10 +9,10 @@ use Rattle.fewest.specs.Statements.{Busiest}
 use Rattle.fewest.proofs.Numbers.{largest_above, numbers_long, number_at}
 
 -- the largest stands somewhere
-abbrev Stands : List ℕ → Type 0
+abbrev pub Stands : List ℕ → Type 0
 Stands xs = (largest xs ≡ 0) ⊎ ((i : ℕ) × (i < length xs) × (get_or xs i 0 ≡ largest xs))
 
-largest_stands : (xs : List ℕ) → Stands xs
+pub largest_stands : (xs : List ℕ) → Stands xs
 largest_stands [] = inl refl
 largest_stands (x ∷ xs) = ⊎_elim (λ less. behind less (largest_stands xs)) (λ more. inr (0, omega arith, omega arith)) (cases_lt x (largest xs))
   where

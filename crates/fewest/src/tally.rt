@@ -35,7 +35,7 @@ fn count_meetings(meetings: &[Meeting], groups: &mut [u16], stations: &mut [u16]
 
 // The largest of these numbers, 0 where there are none.
 #[tactic(auto, using(crate::proofs::Numbers::largest_above, crate::proofs::Numbers::largest_within))]
-fn largest_of(numbers: &[u16]) -> u16
+pub fn largest_of(numbers: &[u16]) -> u16
     ensures { result ≡ largest numbers.now }
 {
     numbers.iter().copied().max().unwrap_or(0)
