@@ -60,8 +60,8 @@ module _ (xs ns : List ℕ) (e : ns ≡ sizes_of (length ns) xs) where
   each : (c : ℕ) → c < length ns → get_or ns c 0 ≡ size xs c
   each c h = ap (λ m. get_or m c 0) e ∙ size_at (length ns) xs c 0 h
 
-  extremes_of : (t : TwoRounds) → UnevenRounds (length ns) (λ c. get_or ns c 0) t → UnevenRounds (length ns) (size xs) t
-  extremes_of t ends = record {
+  uneven_of : (t : TwoRounds) → UnevenRounds (length ns) (λ c. get_or ns c 0) t → UnevenRounds (length ns) (size xs) t
+  uneven_of t ends = record {
     fullest = ends.fullest ∙ fullest_ext (length ns) (λ c. get_or ns c 0) (size xs) each;
     emptiest = ends.emptiest ∙ emptiest_ext (length ns) (λ c. get_or ns c 0) (size xs) each;
     uneven = sym (uneven_ext (length ns) (λ c. get_or ns c 0) (size xs) (some_rounds (length ns) (λ c. get_or ns c 0) ends.uneven) each) ∙ ends.uneven;
@@ -77,7 +77,7 @@ module _ (xs ns : List ℕ) (e : ns ≡ sizes_of (length ns) xs) where
 -- the fullest and the emptiest of the rounds of a board
 module _ (e : Board) (ns : List ℕ) (w : Found) (room : ℕ) (ready : ReadyToEven e ns w room) (t : TwoRounds) (ends : UnevenRounds (length ns) (λ c. get_or ns c 0) t) where
   of_rounds : UnevenRounds (length ns) (size (rounds_on e)) t
-  of_rounds = extremes_of (rounds_on e) ns ready.counted t ends
+  of_rounds = uneven_of (rounds_on e) ns ready.counted t ends
 
   some : 1 ≤ length ns
   some = some_rounds (length ns) (size (rounds_on e)) of_rounds.uneven

@@ -1,14 +1,13 @@
 -- Cleared rows are the rows of meetings without a round. Assumes nothing.
-use Rattle.std.proofs.Common.{◌≡◌, ℕ, zero, suc, ◌+◌, ◌*◌, ◌<◌, ◌≤◌, List, length, get_or, drop, replicate, ap, ◌∙◌, ⊎_elim, mul-le-mul_right, suc-mul, arith}
+use Rattle.std.proofs.Common.{◌≡◌, ℕ, ◌+◌, ◌*◌, ◌<◌, ◌≤◌, List, length, get_or, drop, replicate, ap, ◌∙◌, ⊎_elim, mul-le-mul_right, suc-mul, arith}
 use Rattle.std.proofs.lemmas.List.{drop_at, get_or_append_left, get_or_past, get_or-replicate, length-append, length-drop, length-replicate}
 use Rattle.std.proofs.lemmas.Bool.{cases_lt}
 use Rattle.fewest.specs.Plans.{none}
 use Rattle.meetings.specs.declared.numbers.Meeting.{Meeting}
 use Rattle.meetings.specs.declared.numbers.Side.TheVariants.{Groups, Stations}
-use Rattle.meetings.specs.Lists.{Exist}
 use Rattle.chains.specs.declared.shapes.Shape.{Shape}
 use Rattle.chains.specs.Partial.{party_of, round_of}
-use Rattle.chains.specs.Rows.{Beyond, Holds, Rows}
+use Rattle.chains.specs.Rows.{Beyond, Rows}
 use Rattle.chains.specs.Shapes.{Sized}
 use Rattle.chains.specs.Starting.{Emptied, cleared}
 use Rattle.chains.proofs.RowsKept.{place_before}
@@ -57,23 +56,3 @@ emptied ms z xs xs' gs gs' ss ss' group_room station_room rounds group_rows stat
       group_rest = cleared_beyond z.groups z.group_width gs gs' group_room group_rows;
       station_rest = cleared_beyond z.stations z.station_width ss ss' station_room station_rows;
     }
-
-rows_room : (m : ℕ) (party rnd : ℕ → ℕ) (n w : ℕ) (rows : List ℕ) → Rows m party rnd n w rows → n * w ≤ length rows
-rows_room m party rnd zero w rows r = omega arith
-rows_room m party rnd (suc p) w rows r = let more = suc-mul p w in omega (arith, r.room p (omega arith))
-
--- slices that are a board are as long as it asks for
-pub sized_as_held : (ms : List Meeting) (z : Shape) (xs gs ss : List ℕ) → Holds ms z xs gs ss → Sized ms z xs gs ss
-sized_as_held ms z xs gs ss b = record {
-  few = b.few;
-  each = b.each;
-  exist = exist;
-  group_narrow = b.groups.narrow;
-  station_narrow = b.stations.narrow;
-  group_room = rows_room _ _ _ _ _ _ b.groups;
-  station_room = rows_room _ _ _ _ _ _ b.stations;
-}
-  where
-    exist : Exist z.groups z.stations ms
-    exist Groups = b.groups.parties
-    exist Stations = b.stations.parties

@@ -2,11 +2,10 @@
 ghost use Rattle.std.specs.Prelude.{◌≡◌, ◌*◌, ◌≤◌, List, length, replicate};
 ghost use Rattle.meetings.specs.declared.numbers.Meeting.{Meeting};
 ghost use Rattle.fewest.specs.Plans.{none};
-ghost use Rattle.chains.specs.Boards.{Becomes, meetings_on};
 ghost use Rattle.chains.specs.Starting.{Emptied, cleared};
 ghost use Rattle.chains.specs.Shapes.{Sized};
 
-use crate::board::{Board, NONE};
+use crate::board::NONE;
 use crate::shapes::Shape;
 
 // Clears the rows in use, and no more. What is written are entries of a lent slice.
@@ -15,19 +14,6 @@ fn clear_rows(rows: &mut [u16], parties: u16, width: u16)
     ensures { rows.new ≡ cleared parties width rows.old }
 {
     rows[0..usize::from(parties) * usize::from(width)].fill(NONE);
-}
-
-impl Board<'_> {
-    // Empties the board: no meeting has a round.
-    #[tactic(auto, using(crate::proofs::EmptyBoard::sized_as_held))]
-    pub fn empty(&mut self)
-        ensures { Becomes self.old self.new (replicate (length (meetings_on self.old)) none) }
-    {
-        let rounds = &mut *self.rounds;
-        let group_rows = &mut *self.group_rows;
-        let station_rows = &mut *self.station_rows;
-        empty(self.shape, rounds, group_rows, station_rows);
-    }
 }
 
 // Empties three slices, as they are lent and whatever they held. For each list of meetings that they are sized for, they are a
