@@ -8,7 +8,7 @@ use Rattle.meetings.specs.declared.numbers.Side.{Side}
 use Rattle.meetings.specs.declared.numbers.Side.TheVariants.{Groups, Stations}
 use Rattle.fewest.specs.Counting.{one_if}
 use Rattle.meetings.specs.Lists.{other_side}
-use Rattle.chains.specs.Chains.{Two, in_two, Sound, Beside, Closed, Linked, itself, next, swap, near, with_one, with_all, holds, walked}
+use Rattle.chains.specs.Chains.{Two, in_two, Sound, Beside, Closed, Linked, itself, next, swap, near, with_one, with_all, holds, walked, chain}
 use Rattle.chains.specs.Statements.{in_part, PartOf, Parts}
 use Rattle.chains.proofs.Closing.{part_closes}
 use Rattle.chains.proofs.Members.{not_one, in_all, first_held, held_cases, append_cases, Fresh, unless, once_from_fresh, fresh_append}
@@ -53,6 +53,13 @@ even_run t sound e f turn V s j (z ∷ zs) here run =
     let ih = even_run t sound f e (turned t e f turn) (with_one V z) (other_side s) z zs there run.3 in
     let cons = part_cons t f e z zs there (turn_differ t f e sound (turned t e f turn)) in
     (omega arith, omega arith)
+
+-- a chain that starts in a has at least as many there as in b
+pub chain_more : (t : Two) (V : ℕ → Bool) (i : ℕ) → Sound t → t.round i ≡ t.a → in_part t t.b (chain t V i) ≤ in_part t t.a (chain t V i)
+chain_more t V i sound here =
+    let rest = even_run t sound t.a t.b (inl (refl, refl)) (with_one V i) Groups i (walked t (with_one V i) Groups i) here (followed t (with_one V i) Groups i) in
+    let first = part_cons t t.a t.b i (walked t (with_one V i) Groups i) here sound.different in
+    omega arith
 
 -- a meeting and two runs from it
 even_part : (t : Two) → Sound t → (e f : ℕ) → Turn t e f → (V W : ℕ → Bool) (s q : Side) (x : ℕ) (zs ys : List ℕ) → t.round x ≡ e → Run t V s x zs → Run t W q x ys → (in_part t e ((x ∷ zs) ++ ys) ≤ suc (in_part t f ((x ∷ zs) ++ ys))) × (in_part t f ((x ∷ zs) ++ ys) ≤ suc (in_part t e ((x ∷ zs) ++ ys)))

@@ -33,7 +33,7 @@ module _ (ms : List Meeting) (xs : List ℕ) (i a b : ℕ) where
 
   module _ (n k : ℕ) (z : Shape) (is : List ℕ) (same : is ≡ chain_for ms xs i a b) (opens : Opens n k ms xs i a b (chain_for ms xs i a b)) where
     pub exchangeable : WithinRows z a → WithinRows z b → Exchangeable ms z xs is a b
-    exchangeable one other = rw same (record { one = one; other = other; different = opens.different; within = opens.within; closed = opens.closed })
+    exchangeable one other = rw same (record { one = one; other = other; different = opens.different; within = opens.whole.within; closed = opens.whole.closed })
 
     pub then_vacant : length xs ≡ length ms → (ys : List ℕ) → ys ≡ exchanged a b is xs → (s : Side) → Vacant ms ys s (party_of ms s i) a
     then_vacant each ys e s j h c p =

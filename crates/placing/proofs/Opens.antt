@@ -10,7 +10,7 @@ use Rattle.chains.specs.Partial.{party_of, round_of, meeting_of}
 use Rattle.chains.specs.Statements.{PartOf}
 use Rattle.chains.proofs.Exchange.{two_sound}
 use Rattle.chains.proofs.Lowest.{lowest_of}
-use Rattle.chains.proofs.Parts.{parts}
+use Rattle.chains.proofs.Parts.{chain_more, parts}
 use Rattle.chains.proofs.Runs.{chain_whole, never_comes}
 use Rattle.chains.proofs.Short.{short}
 use Rattle.placing.specs.Putting.{free, own_free, chain_for}
@@ -23,8 +23,8 @@ opened n k r ms xs i ready a b la lb group station taken = record {
   different = differ;
   starts = here;
   starts_in = there.1;
-  within = chain_part.within;
-  closed = chain_part.closed;
+  whole = chain_part;
+  more = chain_more (two ms xs a b) nothing x sound there.1;
   short = short (two ms xs a b) n k x (chain_for ms xs i a b) sound (λ j h. (ready.exist Groups j h, ready.exist Stations j h)) chain_part;
   goes = goes;
   comes = comes;

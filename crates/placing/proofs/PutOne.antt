@@ -94,7 +94,7 @@ module _ (n k r : ℕ) (ms : List Meeting) (xs : List ℕ) (i : ℕ) (ready : Re
   -- after the exchange of a chain that opens a round
   pub puts_chain : (a b : ℕ) (is : List ℕ) → a < r → b < r → Opens n k ms xs i a b is → PutIn n k r ms xs i (after_chain a b is xs i)
   puts_chain a b is la lb opens =
-      given n k r ms xs (exchanged a b is xs) i a (1 + length is) ready.here la (exchange_keeps r ms xs a b is ready.rounds la lb ready.plan opens.closed) (chain_frees n k ms xs i a b is ready.plan.each opens)
+      given n k r ms xs (exchanged a b is xs) i a (1 + length is) ready.here la (exchange_keeps r ms xs a b is ready.rounds la lb ready.plan opens.whole.closed) (chain_frees n k ms xs i a b is ready.plan.each opens)
       (λ j h l. exchanged_below a b is xs r j la lb (within j h) l)
       (λ j out. exchanged_none a b is xs r j ready.rounds la lb out)
       (omega (arith, opens.short))

@@ -8,7 +8,8 @@ use Rattle.fewest.specs.Counting.{count}
 use Rattle.fewest.specs.Plans.{none, Plan}
 use Rattle.fewest.specs.Rounds.{meetings_of, busiest}
 use Rattle.chains.specs.Partial.{Partial, meeting_of, round_of, party_of}
-use Rattle.chains.specs.Chains.{two, in_two, holds, Closed}
+use Rattle.chains.specs.Chains.{two, holds}
+use Rattle.chains.specs.Statements.{PartOf, in_part}
 use Rattle.placing.specs.Putting.{Placed, common_free, own_free, chain_for, put, put_all}
 
 -- how many meetings of a party have one of r rounds
@@ -45,15 +46,15 @@ pub record PutIn (n k r : ℕ) (ms : List Meeting) (xs : List ℕ) (i : ℕ) (p 
 abbrev pub Puts : Type 0
 Puts = (n k r : ℕ) (ms : List Meeting) (xs : List ℕ) (i : ℕ) → Ready n k r ms xs i → PutIn n k r ms xs i (put r ms xs i)
 
--- the chain for a meeting without a common free round: a and b differ, it starts at a meeting that the station has in a, it is
--- closed and short, and when it is exchanged the group and the station are both free in a: who of them is in a goes, nobody of
--- them comes
+-- the chain for a meeting without a common free round: a and b differ, it is the part of a meeting that the station has in a,
+-- short, with at least as many meetings in a as in b, and when it is exchanged the group and the station are both free in a: who of
+-- them is in a goes, nobody of them comes
 pub record Opens (n k : ℕ) (ms : List Meeting) (xs : List ℕ) (i a b : ℕ) (is : List ℕ) : Type 0 where
   pub different : a ≡ b → ⊥
   pub starts : meeting_of ms xs Stations (party_of ms Stations i) a < length ms
   pub starts_in : round_of xs (meeting_of ms xs Stations (party_of ms Stations i) a) ≡ a
-  pub within : (j : ℕ) → holds is j ≡ true → (j < length ms) × (in_two (two ms xs a b) j ≡ true)
-  pub closed : Closed (two ms xs a b) (holds is)
+  pub whole : PartOf (two ms xs a b) (meeting_of ms xs Stations (party_of ms Stations i) a) is
+  pub more : in_part (two ms xs a b) b is ≤ in_part (two ms xs a b) a is
   pub short : length is ≤ n + k
   pub goes : (s : Side) (j : ℕ) → j < length ms → party_of ms s j ≡ party_of ms s i → round_of xs j ≡ a → holds is j ≡ true
   pub comes : (s : Side) (j : ℕ) → j < length ms → party_of ms s j ≡ party_of ms s i → round_of xs j ≡ b → holds is j ≢ true
