@@ -1,6 +1,7 @@
 -- The meetings that were found while chains are followed: in a list, and marked. Assumes nothing.
-use Rattle.std.specs.Prelude.{◌≡◌, ℕ, List, [], length, vec_items}
+use Rattle.std.specs.Prelude.{◌≡◌, ℕ, cond, List, [], ◌∷◌, ◌++◌, length, vec_items}
 use Rattle.chains.specs.declared.found.Found.{Found}
+use Rattle.chains.specs.Chains.{holds}
 
 -- the meetings found, in their order
 abbrev pub found_in : Found → List ℕ
@@ -19,3 +20,8 @@ pub record Finds (v w : Found) (is : List ℕ) : Type 0 where
 pub record Unused (v : Found) (m : ℕ) : Type 0 where
   pub empty : found_in v ≡ []
   pub all : among_all v ≡ m
+
+-- a list of meetings with some more: those of them that it did not have
+abbrev pub with_new : List ℕ → List ℕ → List ℕ
+with_new is [] = is
+with_new is (j ∷ js) = with_new (cond (holds is j) is (is ++ j ∷ [])) js

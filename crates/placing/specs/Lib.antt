@@ -1,3 +1,4 @@
 pub mod OnBoard
 pub mod Putting
 pub mod Statements
+pub mod Steps
