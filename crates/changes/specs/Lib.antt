@@ -1,0 +1,5 @@
+pub mod Days
+pub mod Kinds
+pub mod Making
+pub mod Numbered
+pub mod Statements

@@ -1,0 +1,7 @@
+// Changing a day: meetings are added and dropped, rooms are given up and got, and after each change there is a plan again, made
+// from the one before.
+#![tactic(auto)]
+
+mod change;
+
+pub use change::Change;
