@@ -3,5 +3,6 @@
 #![tactic(auto)]
 
 mod change;
+mod taking;
 
 pub use change::Change;

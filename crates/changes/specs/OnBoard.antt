@@ -1,0 +1,29 @@
+-- What is done on a board while a change is made. Assumes nothing.
+use Rattle.std.specs.Prelude.{◌≡◌, ℕ, ◌<◌, Bool, true, cond, ◌&&◌, ◌||◌, List, length, ◌==◌, nat_le, nat_lt}
+use Rattle.meetings.specs.declared.numbers.Side.TheVariants.{Groups}
+use Rattle.fewest.specs.Plans.{none}
+use Rattle.chains.specs.declared.board.Board.{Board}
+use Rattle.chains.specs.Boards.{Becomes, meetings_on, rounds_on}
+use Rattle.chains.specs.Chains.{holds}
+use Rattle.chains.specs.Partial.{party_of, round_of}
+use Rattle.chains.specs.Statements.{Once}
+
+-- a meeting that is in one of the rounds from the first of these to the second, which is not one of them
+abbrev pub goes : Board → ℕ → ℕ → ℕ → Bool
+goes d first end i = nat_lt i (length (meetings_on d)) && nat_le first (round_of (rounds_on d) i) && nat_lt (round_of (rounds_on d) i) end
+
+-- that, and of a group
+abbrev pub goes_of : Board → ℕ → ℕ → ℕ → ℕ → Bool
+goes_of d first end g i = goes d first end i && party_of (meetings_on d) Groups i == g
+
+-- these are meetings without a round, each once
+pub record AreOut (d : Board) (is : List ℕ) : Type 0 where
+  pub out : (i : ℕ) → holds is i ≡ true → (i < length (meetings_on d)) × (round_of (rounds_on d) i ≡ none)
+  pub once : Once is
+
+-- the board d becomes e: those that pass lose their round, and are added to the list, which was is and is js now
+pub record TakesOut (d e : Board) (is js : List ℕ) (passes : ℕ → Bool) : Type 0 where
+  pub board : Becomes d e (rounds_on e)
+  pub now : (i : ℕ) → i < length (meetings_on d) → round_of (rounds_on e) i ≡ cond (passes i) none (round_of (rounds_on d) i)
+  pub held : (i : ℕ) → holds js i ≡ (holds is i || passes i)
+  pub out : AreOut e js
