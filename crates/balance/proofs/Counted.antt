@@ -10,7 +10,7 @@ use Rattle.fewest.specs.Plans.{in_round}
 use Rattle.balance.specs.Sizes.{size, sizes_of}
 use Rattle.balance.proofs.Far.{OneMoved}
 
-sizes_long : (r : ℕ) (xs : List ℕ) → length (sizes_of r xs) ≡ r
+pub sizes_long : (r : ℕ) (xs : List ℕ) → length (sizes_of r xs) ≡ r
 sizes_long r xs = length-map-range_with_len (size xs) 0 r
 
 pub size_at : (r : ℕ) (xs : List ℕ) (c d : ℕ) → c < r → get_or (sizes_of r xs) c d ≡ in_round c xs

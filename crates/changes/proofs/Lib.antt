@@ -1,1 +1,3 @@
 pub mod TakingOut
+pub mod MovingTurns
+pub mod SizesKept

@@ -27,3 +27,8 @@ pub record TakesOut (d e : Board) (is js : List ℕ) (passes : ℕ → Bool) : T
   pub now : (i : ℕ) → i < length (meetings_on d) → round_of (rounds_on e) i ≡ cond (passes i) none (round_of (rounds_on d) i)
   pub held : (i : ℕ) → holds js i ≡ (holds is i || passes i)
   pub out : AreOut e js
+
+-- the rounds before a change became before': for these meetings they are xs now, for all others what they were
+pub record Noted (before before' xs is : List ℕ) : Type 0 where
+  pub long : length before' ≡ length before
+  pub now : (i : ℕ) → round_of before' i ≡ cond (holds is i) (round_of xs i) (round_of before i)

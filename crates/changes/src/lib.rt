@@ -3,6 +3,8 @@
 #![tactic(auto)]
 
 mod change;
+mod moving;
+mod sizes;
 mod taking;
 
 pub use change::Change;
