@@ -4,3 +4,4 @@ pub mod Making
 pub mod Numbered
 pub mod OnBoard
 pub mod Statements
+pub mod Told

@@ -3,8 +3,10 @@
 #![tactic(auto)]
 
 mod change;
+mod changed;
 mod moving;
 mod sizes;
 mod taking;
 
 pub use change::Change;
+pub use changed::Changed;

@@ -1,5 +1,5 @@
 -- Each turn looks at one meeting, and notes its round.
-use Rattle.std.proofs.Common.{◌<◌, ◌≤◌, get_or, length, sym, ◌∙◌, arith}
+use Rattle.std.proofs.Common.{sym, ◌∙◌, arith}
 use Rattle.chains.proofs.Members.{place_held}
 use Rattle.changes.proofs.MovingTurns.{few_counted, moving_ends, moving_no, moving_starts, moving_yes}
 use Rattle.changes.proofs.moving.count_moved.Goals as goal
