@@ -1,5 +1,5 @@
 // Looking for a part with one more meeting in one round than in another.
-ghost use Rattle.std.specs.Prelude.{◌≡◌, ℕ, ◌<◌, true, false, ◌++◌, length};
+ghost use Rattle.std.specs.Prelude.{◌≡◌, ℕ, ◌<◌, ◌≤◌, true, false, ◌++◌, length};
 ghost use Rattle.chains.specs.Boards.{InTwo, meetings_on, rounds_on, two_on};
 ghost use Rattle.chains.specs.Chains.{holds, part};
 ghost use Rattle.chains.specs.Exchanges.{among};
@@ -46,7 +46,7 @@ fn look_at(
     found: &mut Found,
 ) -> Option<usize>
     requires in_two { InTwo board.now rounds meeting.0 }
-    requires all { among_all found.old ≡ length (meetings_on board.now) }
+    requires enough { length (meetings_on board.now) ≤ among_all found.old }
     requires new { holds (found_in found.old) meeting.0 ≡ false }
     ensures found { Finds found.old found.new (found_in found.old ++ part (two_on board.now rounds) (holds (found_in found.old)) meeting.0) }
     ensures start { Judged (two_on board.now rounds) (found_in found.old) meeting.0 result }

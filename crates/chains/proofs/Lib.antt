@@ -19,3 +19,4 @@ pub mod Short
 pub mod ThreeShifts
 pub mod Unless
 pub mod Walks
+pub mod WithNew

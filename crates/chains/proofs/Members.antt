@@ -1,13 +1,13 @@
 -- The members of a list as a set, and how many of them pass a test: counted in a list without repeats or over all numbers
 -- below m, it is the same number. Assumes nothing.
-use Rattle.std.proofs.Common.{◌≡◌, ℕ, zero, suc, ◌+◌, ◌<◌, Bool, true, false, cond, not, ◌&&◌, ◌||◌, eqb, ◌⊎◌, List, [], ◌∷◌, ◌++◌, length, get_or, take, drop, count_by, sym, refl, ap, ◌∙◌, inl, inr, ⊎_elim, arith}
+use Rattle.std.proofs.Common.{◌≡◌, ℕ, zero, suc, ◌+◌, ◌<◌, ◌≤◌, Bool, true, false, cond, not, ◌&&◌, ◌||◌, eqb, ◌⊎◌, List, [], ◌∷◌, ◌++◌, length, get_or, take, drop, count_by, sym, refl, ap, ◌∙◌, inl, inr, ⊎_elim, arith}
 use Rattle.std.proofs.lemmas.List.{take-append-drop}
 use Rattle.std.proofs.lemmas.List.Sums.{sum_by-cons}
 use Rattle.std.proofs.lemmas.Bool.{both_ways, cases_eq, or_cases, or_left, eqb-true, eq-eqb}
 use Rattle.std.proofs.lemmas.Bool.Decides.{nat_tests}
 use Rattle.fewest.specs.Counting.{count, one_if}
 use Rattle.fewest.specs.Plans.{none}
-use Rattle.fewest.proofs.Counting.{count_ext, count_none}
+use Rattle.fewest.proofs.Counting.{count_ext, count_none, total_at_most}
 use Rattle.chains.specs.Chains.{with_one, with_all, nothing, holds, left_of}
 use Rattle.chains.specs.Statements.{Once}
 
@@ -193,3 +193,17 @@ fresh_count p (z ∷ zs) m fresh within =
 
 pub count_members : (p : ℕ → Bool) (is : List ℕ) (m : ℕ) → Once is → ((j : ℕ) → holds is j ≡ true → j < m) → count_by p is ≡ count (λ j. holds is j && p j) m
 count_members p is m once within = fresh_count p is m (fresh_from_once is once) within
+
+-- numbers below m, each once, are m at most
+pub once_short : (is : List ℕ) (m : ℕ) → Once is → ((j : ℕ) → holds is j ≡ true → j < m) → length is ≤ m
+once_short is m once within =
+    let each = total_at_most (λ j. one_if (holds is j && true)) 1 m (λ j h. one_most (holds is j && true)) in
+    omega (arith, all is, count_members (λ j. true) is m once within)
+  where
+    all : (zs : List ℕ) → count_by (λ j. true) zs ≡ length zs
+    all [] = refl
+    all (z ∷ zs) = omega (arith, sum_by-cons (λ (x : ℕ). 1) z zs, all zs)
+
+    one_most : (b : Bool) → one_if b ≤ 1
+    one_most true = omega arith
+    one_most false = omega arith

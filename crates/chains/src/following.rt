@@ -1,5 +1,5 @@
 // Following chains of two rounds: the chain of a meeting, and its part.
-ghost use Rattle.std.specs.Prelude.{◌≡◌, false, ◌++◌, length};
+ghost use Rattle.std.specs.Prelude.{◌≡◌, ◌≤◌, false, ◌++◌, length};
 ghost use Rattle.chains.specs.Boards.{InTwo, meetings_on, two_on};
 ghost use Rattle.chains.specs.Chains.{holds, walked, chain, part};
 ghost use Rattle.chains.specs.Finding.{Finds, among_all, found_in};
@@ -14,7 +14,7 @@ impl Board<'_> {
     // found already. What is found is added.
     pub fn follow(&self, rounds: TwoRounds, side: Side, from: MeetingId, found: &mut Found)
         requires in_two { InTwo self.now rounds from.0 }
-        requires all { among_all found.old ≡ length (meetings_on self.now) }
+        requires enough { length (meetings_on self.now) ≤ among_all found.old }
         ensures { Finds found.old found.new (found_in found.old ++ walked (two_on self.now rounds) (holds (found_in found.old)) side from.0) }
     {
         // a loop along a chain is left by its label, here as everywhere
@@ -37,7 +37,7 @@ impl Board<'_> {
     #[tactic(auto, using(crate::proofs::ChainTurns::chain_found))]
     pub fn find_chain(&self, rounds: TwoRounds, meeting: MeetingId, found: &mut Found)
         requires in_two { InTwo self.now rounds meeting.0 }
-        requires all { among_all found.old ≡ length (meetings_on self.now) }
+        requires enough { length (meetings_on self.now) ≤ among_all found.old }
         requires new { holds (found_in found.old) meeting.0 ≡ false }
         ensures { Finds found.old found.new (found_in found.old ++ chain (two_on self.now rounds) (holds (found_in found.old)) meeting.0) }
     {
@@ -49,7 +49,7 @@ impl Board<'_> {
     #[tactic(auto, using(crate::proofs::ChainTurns::part_found))]
     pub fn find_part(&self, rounds: TwoRounds, meeting: MeetingId, found: &mut Found)
         requires in_two { InTwo self.now rounds meeting.0 }
-        requires all { among_all found.old ≡ length (meetings_on self.now) }
+        requires enough { length (meetings_on self.now) ≤ among_all found.old }
         requires new { holds (found_in found.old) meeting.0 ≡ false }
         ensures { Finds found.old found.new (found_in found.old ++ part (two_on self.now rounds) (holds (found_in found.old)) meeting.0) }
     {

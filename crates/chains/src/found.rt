@@ -26,11 +26,11 @@ fn mark(marks: &mut [bool], meeting: MeetingId, set_to: bool)
 }
 
 impl Found {
-    ghost use Rattle.chains.specs.Finding.{Finds, Unused, among_all, found_in};
+    ghost use Rattle.chains.specs.Finding.{Finds, NoneFound, among_all, found_in, with_new};
 
     // Nothing found yet, among so many meetings. Only memory can be wanting.
     pub fn none(heap: Global, many: usize) -> Result<Found, Refusal>
-        ensures { IfMemory result (λ v. Unused v many) }
+        ensures { IfMemory result (λ v. NoneFound v many) }
     {
         let marks = vec![in heap; false; many]?;
         let list = Vec::with_capacity(heap, many)?;
@@ -60,6 +60,19 @@ impl Found {
     {
         mark(&mut self.marks, meeting, true);
         self.list.push_reserved(meeting.0);
+    }
+
+    // Adds those of these meetings that were not found yet.
+    pub fn add_all(&mut self, members: &[u16])
+        requires within { (i : ℕ) → holds members.now i ≡ true → i < among_all self.old }
+        ensures { Finds self.old self.new (with_new (found_in self.old) members.now) }
+    {
+        for member in members {
+            let meeting = MeetingId(*member);
+            if !self.has(meeting) {
+                self.add(meeting);
+            }
+        }
     }
 
     // Forgets all that were found; only marks that were set are cleared.

@@ -9,7 +9,7 @@ use Rattle.chains.specs.Boards.{Becomes, meetings_on, rounds_on}
 use Rattle.chains.specs.Finding.{Finds, Unused}
 use Rattle.chains.proofs.BoardKept.{becomes_then}
 use Rattle.chains.proofs.ChainTurns.{finds_then}
-use Rattle.placing.specs.OnBoard.{PutsOn}
+use Rattle.placing.specs.OnBoard.{PutOn}
 use Rattle.placing.specs.Putting.{Placed, placed, put, put_from, put_all}
 use Rattle.placing.specs.Statements.{PutIn, Ready}
 use Rattle.placing.proofs.PutAll.{PutBefore, one_before, put_from_more}
@@ -26,7 +26,7 @@ pub finds_same : (v : Found) (m : ℕ) → Unused v m → Finds v v []
 finds_same v m u = record { among = refl; list = u.empty }
 
 pub still_unused : (v w : Found) (m : ℕ) → Unused v m → Finds v w [] → Unused w m
-still_unused v w m u f = record { empty = f.list; all = f.among ∙ u.all }
+still_unused v w m u f = record { empty = f.list; enough = omega (arith, f.among, u.enough) }
 
 -- what is said of the meetings and the shape of one board, said of another with the same
 pub ready_also : (z z' : Shape) (r : ℕ) (ms ms' : List Meeting) (xs : List ℕ) (i : ℕ) → z' ≡ z → ms' ≡ ms → Ready z.groups z.stations r ms xs i → Ready z'.groups z'.stations r ms' xs i
@@ -36,12 +36,12 @@ put_also : (z z' : Shape) (r : ℕ) (ms ms' : List Meeting) (xs : List ℕ) (i :
 put_also z z' r ms ms' xs i p same also put = rw (← same, ← also) put
 
 module _ (r : ℕ) (d e : Board) (v w : Found) (i looks : ℕ) (now_at : Putting r d e v w i looks) (here : i < length (meetings_on d)) where
-  pub putting_more : (e' : Board) (w' : Found) (l : ℕ) → PutsOn e e' w w' (put r (meetings_on e) (rounds_on e) i) l → PutIn e.shape.groups e.shape.stations r (meetings_on e) (rounds_on e) i (placed (rounds_on e') l) → l ≤ 1 + none → Putting r d e' v w' (i + 1) (looks + l)
-  putting_more e' w' l done one few = record {
+  pub putting_more : (e' : Board) (u w' : Found) (is : List ℕ) (l : ℕ) → PutOn e e' (put r (meetings_on e) (rounds_on e) i) l → Finds w u is → Finds u w' [] → PutIn e.shape.groups e.shape.stations r (meetings_on e) (rounds_on e) i (placed (rounds_on e') l) → l ≤ 1 + none → Putting r d e' v w' (i + 1) (looks + l)
+  putting_more e' u w' is l done chain cleared one few = record {
     before = let next : suc i ≡ i + 1 = omega arith in rw (← next) (one_before d.shape.groups d.shape.stations r (meetings_on d) i (placed (rounds_on e) looks) (placed (rounds_on e') l) here now_at.before (put_also d.shape e.shape r (meetings_on d) (meetings_on e) (rounds_on e) i _ now_at.board.shape now_at.board.meetings one));
     board = becomes_then d e e' _ _ _ now_at.board done.board (sym done.board.rounds);
     rule = ap (put_from r (meetings_on d) (length (meetings_on d) - (i + 1)) (i + 1)) same ∙ sym (put_from_more r (meetings_on d) i (placed (rounds_on e) looks) here) ∙ now_at.rule;
-    forgotten = finds_then v w w' [] [] [] now_at.forgotten done.forgotten refl;
+    forgotten = finds_then v u w' is [] [] (finds_then v w u [] is is now_at.forgotten chain refl) cleared refl;
     few = let more = suc-mul i (1 + none) in omega (arith, now_at.few, few, more);
   }
     where

@@ -17,9 +17,10 @@ use Rattle.chains.specs.Partial.{Unless, Vacant, party_of, round_of, meeting_of}
 use Rattle.chains.proofs.Exchange.{exchanged_none}
 use Rattle.chains.proofs.Lowest.{lowest_of}
 use Rattle.chains.proofs.Unless.{some_is}
-use Rattle.placing.specs.Putting.{chain_for, common_free, free, own_free, placed, put, put_by_chain}
-use Rattle.placing.specs.OnBoard.{OpensOn, PutsOn, ReadyOn}
+use Rattle.placing.specs.Putting.{Placed, chain_for, common_free, free, own_free, placed, put, put_by_chain}
+use Rattle.placing.specs.OnBoard.{OpensOn, PutOn, ReadyOn}
 use Rattle.placing.specs.Statements.{Opens, PutIn, Ready}
+use Rattle.placing.specs.Steps.{chained}
 use Rattle.placing.proofs.PutOne.{chain_frees, common_frees, puts, put_in_as}
 use Rattle.placing.proofs.Opens.{chain_opens}
 
@@ -56,6 +57,10 @@ module _ (n k r : ℕ) (ms : List Meeting) (xs : List ℕ) (i : ℕ) (ready : Re
   put_common_is c is some =
       ap (λ x. placed (set xs i x) 1) is ∙ sym (cond-true (ltb (common_free r ms xs i) r) _ _ (lt-ltb _ _ (common_below some)))
 
+  -- and no chain is exchanged
+  pub chained_none : (common_free r ms xs i ≡ r → ⊥) → chained r ms xs i ≡ []
+  chained_none some = cond-true (ltb (common_free r ms xs i) r) _ _ (lt-ltb _ _ (common_below some))
+
   module _ (a b : ℕ) (none_common : r ≤ common_free r ms xs i) (is_a : a ≡ own_free r ms xs i Groups) (is_b : b ≡ own_free r ms xs i Stations) where
     -- the two rounds that were found, and their chain
     pub chain_found_opens : (a < r) × (b < r) × Opens n k ms xs i a b (chain_for ms xs i a b)
@@ -68,13 +73,24 @@ module _ (n k r : ℕ) (ms : List Meeting) (xs : List ℕ) (i : ℕ) (ready : Re
         ∙ ap (put_by_chain ms xs i (own_free r ms xs i Groups)) is_b
         ∙ sym (cond-false (ltb (common_free r ms xs i) r) _ _ (le-ltb _ _ none_common))
 
+    -- which is the one that is exchanged
+    pub chained_is : chain_for ms xs i a b ≡ chained r ms xs i
+    chained_is =
+        ap (λ x. chain_for ms xs i x b) is_a
+        ∙ ap (chain_for ms xs i (own_free r ms xs i Groups)) is_b
+        ∙ sym (cond-false (ltb (common_free r ms xs i) r) _ _ (le-ltb _ _ none_common))
+
+-- the same rounds and looks, said otherwise
+pub put_on_as : (d e : Board) (p q : Placed) (counted : ℕ) → PutOn d e p counted → p ≡ q → PutOn d e q counted
+put_on_as d e p q counted on is = rw (← is) on
+
 -- what the rule leaves on a board has the meeting put in
-pub put_in_on : (d e : Board) (v w : Found) (r i looks : ℕ) → Ready d.shape.groups d.shape.stations r (meetings_on d) (rounds_on d) i → PutsOn d e v w (put r (meetings_on d) (rounds_on d) i) looks → PutIn d.shape.groups d.shape.stations r (meetings_on d) (rounds_on d) i (placed (rounds_on e) looks)
-put_in_on d e v w r i looks ready done = put_in_as _ _ _ _ _ _ _ _ _ done.board.rounds done.looks (puts _ _ r (meetings_on d) (rounds_on d) i ready)
+pub put_in_on : (d e : Board) (r i looks : ℕ) → Ready d.shape.groups d.shape.stations r (meetings_on d) (rounds_on d) i → PutOn d e (put r (meetings_on d) (rounds_on d) i) looks → PutIn d.shape.groups d.shape.stations r (meetings_on d) (rounds_on d) i (placed (rounds_on e) looks)
+put_in_on d e r i looks ready done = put_in_as _ _ _ _ _ _ _ _ _ done.board.rounds done.looks (puts _ _ r (meetings_on d) (rounds_on d) i ready)
 
 -- without a common free round each of the two has one of its own, and their chain opens the first
 module _ (d : Board) (v : Found) (r i : ℕ) (on : ReadyOn d v r i) (none_common : common_free r (meetings_on d) (rounds_on d) i ≡ r) where
-  found_opens : (a b : ℕ) → a ≡ own_free r (meetings_on d) (rounds_on d) i Groups → b ≡ own_free r (meetings_on d) (rounds_on d) i Stations → (a < r) × (b < r) × Opens d.shape.groups d.shape.stations (meetings_on d) (rounds_on d) i a b (chain_for (meetings_on d) (rounds_on d) i a b)
+  pub found_opens : (a b : ℕ) → a ≡ own_free r (meetings_on d) (rounds_on d) i Groups → b ≡ own_free r (meetings_on d) (rounds_on d) i Stations → (a < r) × (b < r) × Opens d.shape.groups d.shape.stations (meetings_on d) (rounds_on d) i a b (chain_for (meetings_on d) (rounds_on d) i a b)
   found_opens a b = chain_found_opens _ _ r (meetings_on d) (rounds_on d) i on.ready a b (omega (arith, none_common))
 
   pub own_there : (s : Side) → own_free r (meetings_on d) (rounds_on d) i s ≡ r → ⊥

@@ -2,6 +2,7 @@ pub mod AllTurns
 pub mod ByChain
 pub mod Found
 pub mod FreeRounds
+pub mod Fuller
 pub mod Opens
 pub mod PutAll
 pub mod PutOne

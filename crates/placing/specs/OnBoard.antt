@@ -27,14 +27,19 @@ pub record OpensOn (d : Board) (v : Found) (i a b : ℕ) : Type 0 where
   pub opens : Opens d.shape.groups d.shape.stations (meetings_on d) (rounds_on d) i a b (chain_for (meetings_on d) (rounds_on d) i a b)
   pub unused : Unused v (length (meetings_on d))
 
--- the board d becomes e, with the rounds that the rule gives; so many looks are counted, and what was found is forgotten
+-- the board d becomes e, with the rounds that the rule gives; so many looks are counted
+pub record PutOn (d e : Board) (p : Placed) (counted : ℕ) : Type 0 where
+  pub board : Becomes d e p.rounds
+  pub looks : counted ≡ p.looks
+
+-- the same, and what was found is forgotten
 pub record PutsOn (d e : Board) (v w : Found) (p : Placed) (counted : ℕ) : Type 0 where
   pub board : Becomes d e p.rounds
   pub looks : counted ≡ p.looks
   pub forgotten : Finds v w []
 
--- the board d becomes e: a and b are exchanged on the chain for meeting i, of so many meetings; i still has no round, and its group
--- and its station are free in a
+-- the board d becomes e: a and b are exchanged on the chain for meeting i, of so many meetings, which is found; i still has no
+-- round, and its group and its station are free in a
 pub record Opened (d e : Board) (v w : Found) (i a b long : ℕ) : Type 0 where
   pub board : Becomes d e (exchanged a b (chain_for (meetings_on d) (rounds_on d) i a b) (rounds_on d))
   pub counted : long ≡ length (chain_for (meetings_on d) (rounds_on d) i a b)
@@ -43,4 +48,4 @@ pub record Opened (d e : Board) (v w : Found) (i a b long : ℕ) : Type 0 where
   pub out : round_of (rounds_on e) i ≡ none
   pub group_free : Vacant (meetings_on d) (rounds_on e) Groups (party_of (meetings_on d) Groups i) a
   pub station_free : Vacant (meetings_on d) (rounds_on e) Stations (party_of (meetings_on d) Stations i) a
-  pub forgotten : Finds v w []
+  pub found : Finds v w (chain_for (meetings_on d) (rounds_on d) i a b)

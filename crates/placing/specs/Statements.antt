@@ -4,8 +4,8 @@ use Rattle.meetings.specs.declared.numbers.Meeting.{Meeting}
 use Rattle.meetings.specs.declared.numbers.Side.{Side}
 use Rattle.meetings.specs.declared.numbers.Side.TheVariants.{Groups, Stations}
 use Rattle.meetings.specs.Lists.{Contents, Exist}
-use Rattle.fewest.specs.Counting.{count}
-use Rattle.fewest.specs.Plans.{none, Plan}
+use Rattle.fewest.specs.Counting.{count, one_if}
+use Rattle.fewest.specs.Plans.{none, Plan, in_round}
 use Rattle.fewest.specs.Rounds.{meetings_of, busiest}
 use Rattle.chains.specs.Partial.{Partial, meeting_of, round_of, party_of}
 use Rattle.chains.specs.Chains.{two, holds}
@@ -41,6 +41,10 @@ pub record PutIn (n k r : ℕ) (ms : List Meeting) (xs : List ℕ) (i : ℕ) (p 
   pub still : (j : ℕ) → j < length ms → round_of xs j < r → round_of p.rounds j < r
   pub others : (j : ℕ) → (j ≢ i) → round_of xs j ≡ none → round_of p.rounds j ≡ none
   pub looks : p.looks ≤ 1 + n + k
+
+-- round c has one meeting more, and each other round as many as before
+abbrev pub OneMoreIn : List ℕ → List ℕ → ℕ → Type 0
+OneMoreIn xs ys c = (e : ℕ) → (e ≢ none) → in_round e ys ≡ in_round e xs + one_if (e == c)
 
 -- EACH MEETING CAN BE PUT IN
 abbrev pub Puts : Type 0

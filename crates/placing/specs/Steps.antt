@@ -1,6 +1,6 @@
 -- What putting in and evening out do, step by step: two rounds are exchanged on a part, or a meeting gets a round. Definitions;
 -- assumes nothing.
-use Rattle.std.specs.Prelude.{◌≡◌, ℕ, ◌<◌, cond, List, [], ◌∷◌, ◌++◌, ◌≢◌, nat_lt, slice_set}
+use Rattle.std.specs.Prelude.{◌≡◌, ℕ, ◌%◌, ◌<◌, cond, List, [], ◌∷◌, ◌++◌, ◌==◌, ◌≢◌, nat_lt, slice_set}
 use Rattle.meetings.specs.declared.numbers.Meeting.{Meeting}
 use Rattle.meetings.specs.declared.numbers.Side.{Side}
 use Rattle.meetings.specs.declared.numbers.Side.TheVariants.{Groups, Stations}
@@ -44,6 +44,11 @@ Leads r ms (t ∷ ts) xs ys = Allowed r ms xs t × Leads r ms ts (done t xs) ys
 -- the chain on which two rounds are exchanged before meeting i is put in; none where its parties have a common free round
 abbrev pub chained : ℕ → List Meeting → List ℕ → ℕ → List ℕ
 chained r ms xs i = cond (nat_lt (common_free r ms xs i) r) [] (chain_for ms xs i (own_free r ms xs i Groups) (own_free r ms xs i Stations))
+
+-- the one of two rounds that has one meeting more when they were exchanged on a chain of so many meetings, and one more was put
+-- into a
+abbrev pub fuller_of : ℕ → ℕ → ℕ → ℕ
+fuller_of a b long = cond (long % 2 == 0) a b
 
 -- THE STEPS OF PUTTING IN one meeting
 abbrev pub put_steps : ℕ → List Meeting → List ℕ → ℕ → List Step

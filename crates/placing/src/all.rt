@@ -26,7 +26,8 @@ pub fn put_in_all(board: &mut Board<'_>, rounds: u16, found: &mut Found) -> u64
     let mut looks = 0;
     // by their numbers, which is what a plan knows meetings by; `as`, since it is proved that they fit
     for meeting in 0..board.meetings.len() as u16 {
-        looks += put_in(board, rounds, MeetingId(meeting), found);
+        looks += put_in(board, rounds, MeetingId(meeting), found).looks;
+        found.clear();
     }
     looks
 }

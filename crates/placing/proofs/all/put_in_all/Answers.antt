@@ -24,7 +24,7 @@ pub loop-meeting-preserved : goal.loop-meeting-preserved
 loop-meeting-preserved c =
     let d = c.args.board.now in
     let here : c.loop-meeting.meeting < length (meetings_on d) = omega (arith, c.loop-meeting-test.true, d.held.few) in
-    putting_more c.args.rounds _ _ _ _ _ _ c.loop-meeting.invariant here _ _ _ c.put_in-looks.ensures.rule c.put_in-looks.ensures.placed c.put_in-looks.ensures.few
+    putting_more c.args.rounds _ _ _ _ _ _ c.loop-meeting.invariant here _ _ _ _ _ c.put_in-looks.ensures.rule c.put_in-looks.ensures.chain c.clear.ensures c.put_in-looks.ensures.placed c.put_in-looks.ensures.few
 
 pub returns-clause-placed : goal.returns-clause-placed
 returns-clause-placed c =

@@ -1,11 +1,12 @@
--- The chain is found and exchanged, and what was found is forgotten.
-use Rattle.std.proofs.Common.{◌<◌, length, refl, ap, ◌∙◌, arith}
+-- The chain is found and exchanged.
+use Rattle.std.proofs.Common.{◌<◌, length, ap, ◌∙◌, arith}
 use Rattle.meetings.specs.declared.numbers.Side.TheVariants.{Groups, Stations}
 use Rattle.fewest.specs.Plans.{none}
 use Rattle.chains.specs.Boards.{meetings_on, rounds_on}
 use Rattle.chains.specs.Exchanges.{exchanged}
 use Rattle.chains.proofs.BoardKept.{becomes_also}
-use Rattle.chains.proofs.ChainTurns.{finds_then}
+use Rattle.chains.proofs.Members.{once_short}
+use Rattle.placing.specs.Putting.{chain_for}
 use Rattle.placing.proofs.ByChain.{chain_is, exchangeable, then_vacant, then_out}
 use Rattle.placing.proofs.put.open_round.Goals as goal
 
@@ -34,9 +35,9 @@ returns c =
       board = becomes_also _ _ _ _ c.exchange.ensures (ap (λ l. exchanged a b l (rounds_on d)) is);
       counted = long;
       short = omega (arith, long, c.requires.opens.short);
-      few = omega (arith, ap length c.list-2.ensures, c.find_chain.new.found.marked.counted, c.find_chain.ensures.among, c.requires.unused.all, d.held.few);
+      few = omega (arith, long, once_short (chain_for (meetings_on d) (rounds_on d) i a b) (length (meetings_on d)) c.requires.opens.whole.once (λ j h. (c.requires.opens.whole.within j h).0), d.held.few);
       out = then_out (meetings_on d) (rounds_on d) i a b _ _ d.shape _ is c.requires.opens la lb c.requires.out _ c.exchange.ensures.rounds;
       group_free = free Groups;
       station_free = free Stations;
-      forgotten = finds_then _ _ _ _ _ _ c.find_chain.ensures c.clear.ensures refl;
+      found = record { among = c.find_chain.ensures.among; list = found };
     }
