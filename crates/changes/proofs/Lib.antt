@@ -1,3 +1,4 @@
 pub mod TakingOut
 pub mod MovingTurns
 pub mod SizesKept
+pub mod Named

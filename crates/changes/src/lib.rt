@@ -5,6 +5,7 @@
 mod change;
 mod changed;
 mod moving;
+mod putting;
 mod sizes;
 mod taking;
 

@@ -1,0 +1,44 @@
+// Putting meetings in on a board whose sizes are kept, and noting which meetings that touches.
+ghost use Rattle.std.specs.Prelude.{◌≡◌, ◌+◌, ◌≤◌, [], length};
+ghost use Rattle.fewest.specs.Plans.{none};
+ghost use Rattle.chains.specs.Boards.{meetings_on, rounds_on};
+ghost use Rattle.chains.specs.Finding.{Finds, among_all, found_in, with_new};
+ghost use Rattle.placing.specs.OnBoard.{PutOn, ReadyOn};
+ghost use Rattle.placing.specs.Putting.{placed, put};
+ghost use Rattle.placing.specs.Statements.{PutIn};
+ghost use Rattle.placing.specs.Steps.{all_named, put_steps};
+ghost use Rattle.balance.specs.Sizes.{sizes_of};
+
+use crate::sizes::add_one;
+use chains::{Board, Found};
+use meetings::MeetingId;
+use placing::put_in;
+
+// Puts a meeting in. Answers the looks.
+fn put_in_counted(
+    board: &mut Board<'_>,
+    rounds: u16,
+    meeting: MeetingId,
+    sizes: &mut [u16],
+    found: &mut Found,
+    touched: &mut Found,
+) -> u64
+    requires ready { ReadyOn board.old found.old rounds meeting.0 }
+    requires within { rounds ≤ length sizes.old }
+    requires few { length sizes.old ≤ none }
+    requires counted { sizes.old ≡ sizes_of (length sizes.old) (rounds_on board.old) }
+    requires touched { length (meetings_on board.old) ≤ among_all touched.old }
+    ensures rule { PutOn board.old board.new (put rounds (meetings_on board.old) (rounds_on board.old) meeting.0) result }
+    ensures placed { PutIn board.old.shape.groups board.old.shape.stations rounds (meetings_on board.old) (rounds_on board.old) meeting.0 (placed (rounds_on board.new) result) }
+    ensures counted { sizes.new ≡ sizes_of (length sizes.old) (rounds_on board.new) }
+    ensures forgotten { Finds found.old found.new [] }
+    ensures touched { Finds touched.old touched.new (with_new (found_in touched.old) (all_named (put_steps rounds (meetings_on board.old) (rounds_on board.old) meeting.0))) }
+    ensures few { result ≤ 1 + none }
+{
+    let put = put_in(board, rounds, meeting, found);
+    add_one(sizes, put.fuller);
+    touched.add_all(found.list());
+    touched.add_all(&[meeting.0]);
+    found.clear();
+    put.looks
+}
