@@ -1,6 +1,6 @@
 -- One turn of evening out: what is left gives, by the rule, what the whole gives, and the rounds are nearer to even. Assumes
 -- nothing.
-use Rattle.std.proofs.Common.{◌≡◌, ℕ, suc, ◌+◌, ◌-◌, ◌*◌, ◌<◌, ◌≤◌, true, false, List, [], length, get_or, set, sym, refl, ap, ◌∙◌, ⊎_elim, mul-le-mul_right, suc-mul, arith}
+use Rattle.std.proofs.Common.{◌≡◌, ℕ, suc, ◌+◌, ◌-◌, ◌*◌, ◌<◌, ◌≤◌, true, false, List, [], ◌++◌, length, get_or, set, sym, refl, ap, ◌∙◌, ⊎_elim, mul-le-mul_right, suc-mul, arith}
 use Rattle.std.proofs.lemmas.Bool.{both_ways, cases_Bool}
 use Rattle.std.proofs.lemmas.List.{length-set}
 use Rattle.meetings.specs.declared.numbers.Meeting.{Meeting}
@@ -19,14 +19,15 @@ use Rattle.chains.proofs.BoardKept.{becomes_also, becomes_same, becomes_then}
 use Rattle.chains.proofs.ChainTurns.{finds_then}
 use Rattle.chains.proofs.Exchange.{two_sound}
 use Rattle.placing.specs.Putting.{Placed, placed}
+use Rattle.placing.specs.Steps.{all_named}
 use Rattle.placing.proofs.AllTurns.{finds_same, still_unused}
-use Rattle.balance.specs.Evening.{even_out, one_exchange, after_look}
+use Rattle.balance.specs.Evening.{even_out, even_steps, one_exchange, after_look}
 use Rattle.balance.specs.Looking.{look, looks_of}
 use Rattle.balance.specs.OnBoard.{CanExchange, ExchangedOn, EvensOn, RoomForTwo, ReadyToEven}
-use Rattle.balance.specs.Sizes.{UnevenRounds, size, sizes_of, fullest, uneven, far}
+use Rattle.balance.specs.Sizes.{UnevenRounds, size, sizes_of, emptiest, fullest, uneven, far}
 use Rattle.balance.specs.Statements.{EvenedOut, Exchanged}
 use Rattle.balance.proofs.Counted.{moved_sizes, size_at, size_short}
-use Rattle.balance.proofs.EvenedOut.{exchanges_end, exchanges_more}
+use Rattle.balance.proofs.EvenedOut.{exchanges_end, exchanges_more, steps_end, steps_more}
 use Rattle.balance.proofs.Extremes.{emptiest_ext, emptiest_is, fullest_ext, fullest_is, uneven_ext, uneven_is}
 use Rattle.balance.proofs.Far.{OneMoved, far_below}
 use Rattle.balance.proofs.OneExchange.{exchange_allowed, exchange_moves, one_exchange_is, sizes_together, some_rounds}
@@ -164,6 +165,18 @@ module _ (d e e' : Board) (v w w' : Found) (before ns ns' : List ℕ) (room look
   pub evening_falls : far (length ns') (size (rounds_on e')) < far (length ns) (size (rounds_on e))
   evening_falls = omega (arith, one_nearer)
 
+  -- the meetings of the steps that are left: those of this exchange, and of the steps after it
+  pub named_more : all_named (even_steps (length ns) (meetings_on e) (placed (rounds_on e) looks)) ≡ (look (two_on e t)).taken ++ all_named (even_steps (length ns') (meetings_on e') (placed (rounds_on e') (looks + l)))
+  named_more =
+      let ends_are = of_rounds e ns w room ready t ends in
+      let after = all_named (even_steps (length ns) (meetings_on e) (one_exchange (length ns) (meetings_on e) (placed (rounds_on e) looks))) in
+      ap all_named (steps_more (length ns) (meetings_on e) (placed (rounds_on e) looks) (le e ns w room ready t ends) e.held.few ready.plan apart)
+      ∙ ap (λ a. (look (two (meetings_on e) (rounds_on e) a (emptiest (length ns) (size (rounds_on e))))).taken ++ after) (sym ends_are.fullest)
+      ∙ ap (λ b. (look (two (meetings_on e) (rounds_on e) t.a.0 b)).taken ++ after) (sym ends_are.emptiest)
+      ∙ ap (λ p. (look (two_on e t)).taken ++ all_named (even_steps (length ns) (meetings_on e) p)) (sym as_rule)
+      ∙ ap (λ ms. (look (two_on e t)).taken ++ all_named (even_steps (length ns) ms (placed (rounds_on e') (looks + l)))) (sym done.board.meetings)
+      ∙ ap (λ r. (look (two_on e t)).taken ++ all_named (even_steps r (meetings_on e') (placed (rounds_on e') (looks + l)))) (sym same_long)
+
   pub evening_more : l ≤ none → Evening d e' v w' before ns' room (looks + l)
   evening_more most = record {
     board = becomes_then d e e' _ _ _ so_far.board done.board (sym done.board.rounds);
@@ -192,6 +205,10 @@ module _ (d e e' : Board) (v w w' : Found) (before ns ns' : List ℕ) (room look
 module _ (d e : Board) (v w : Found) (before ns : List ℕ) (room looks : ℕ) (so_far : Evening d e v w before ns room looks) (even : uneven (length ns) (λ c. get_or ns c 0) ≡ false) where
   pub ended : placed (rounds_on e) looks ≡ even_out (length before) (meetings_on d) (placed (rounds_on d) 0)
   ended = sym (exchanges_end (length ns) (meetings_on e) (placed (rounds_on e) looks) (even_of (rounds_on e) ns so_far.ready.counted even)) ∙ so_far.rule
+
+  -- no step is left
+  pub named_none : all_named (even_steps (length ns) (meetings_on e) (placed (rounds_on e) looks)) ≡ []
+  named_none = ap all_named (steps_end (length ns) (meetings_on e) (placed (rounds_on e) looks) (even_of (rounds_on e) ns so_far.ready.counted even))
 
   pub evening_ends : EvensOn d e before ns v w (even_out (length before) (meetings_on d) (placed (rounds_on d) 0)) looks
   evening_ends = record {

@@ -1,14 +1,16 @@
 -- Evening out: each exchange makes the rounds one step nearer to even, so the steps allowed are just those that are left, and
 -- rounds that are no step away are even. Assumes nothing.
-use Rattle.std.proofs.Common.{◌≡◌, ℕ, zero, suc, ◌+◌, ◌*◌, ◌≤◌, true, false, cond, List, length, refl, sym, ap, ◌∙◌, ⊎_elim, suc-mul, arith}
-use Rattle.std.proofs.lemmas.Bool.{cases_Bool, cond_both}
+use Rattle.std.proofs.Common.{◌≡◌, ℕ, zero, suc, ◌+◌, ◌*◌, ◌≤◌, true, false, cond, List, [], ◌∷◌, length, refl, sym, ap, ◌∙◌, ⊎_elim, suc-mul, arith}
+use Rattle.std.proofs.lemmas.Bool.{cases_Bool, cond_both, cond-true, cond-false}
 use Rattle.meetings.specs.declared.numbers.Meeting.{Meeting}
 use Rattle.meetings.specs.Lists.{Exist}
 use Rattle.fewest.specs.Plans.{none}
 use Rattle.chains.specs.Partial.{Partial}
 use Rattle.placing.specs.Putting.{Placed}
+use Rattle.placing.specs.Steps.{exchange}
 use Rattle.balance.specs.Sizes.{size, fullest, emptiest, uneven, far}
-use Rattle.balance.specs.Evening.{one_exchange, exchanges, even_out, number_of_exchanges}
+use Rattle.balance.specs.Evening.{extremes, one_exchange, exchanges, even_out, exchange_steps, even_steps, number_of_exchanges}
+use Rattle.balance.specs.Looking.{look}
 use Rattle.balance.specs.Statements.{EvenedOut, Ends, EvensOut}
 use Rattle.balance.proofs.Extremes.{fullest_is, emptiest_is, even_is}
 use Rattle.balance.proofs.OneExchange.{one_exchange_is, round_short, some_rounds}
@@ -30,6 +32,20 @@ exchanges_more r ms p le few plan apart =
 -- and changes nothing where they are not
 pub exchanges_end : (r : ℕ) (ms : List Meeting) (p : Placed) → uneven r (size p.rounds) ≡ false → even_out r ms p ≡ p
 exchanges_end r ms p even = no_step r ms (far r (size p.rounds)) p even
+
+-- the steps: where the rounds are uneven, that of one exchange and then those of evening out what it leaves
+pub steps_more : (r : ℕ) (ms : List Meeting) (p : Placed) → r ≤ none → length ms ≤ none → Partial r ms p.rounds → uneven r (size p.rounds) ≡ true → even_steps r ms p ≡ exchange (fullest r (size p.rounds)) (emptiest r (size p.rounds)) (look (extremes r ms p.rounds)).taken ∷ even_steps r ms (one_exchange r ms p)
+steps_more r ms p le few plan apart =
+    ap (λ left. exchange_steps r ms left p) (sym (one_exchange_is r ms p le few plan apart).nearer)
+    ∙ cond-true (uneven r (size p.rounds)) _ _ apart
+
+-- and none where they are not, whatever is allowed
+no_steps : (r : ℕ) (ms : List Meeting) (left : ℕ) (p : Placed) → uneven r (size p.rounds) ≡ false → exchange_steps r ms left p ≡ []
+no_steps r ms zero p even = refl
+no_steps r ms (suc left) p even = cond-false (uneven r (size p.rounds)) _ _ even
+
+pub steps_end : (r : ℕ) (ms : List Meeting) (p : Placed) → uneven r (size p.rounds) ≡ false → even_steps r ms p ≡ []
+steps_end r ms p even = no_steps r ms (far r (size p.rounds)) p even
 
 module _ (r : ℕ) (ms : List Meeting) (le : r ≤ none) (few : length ms ≤ none) where
   -- rounds that are no step away are not uneven

@@ -15,4 +15,5 @@ pub mod Looking
 pub mod OneExchange
 pub mod Passed
 pub mod SamePart
+pub mod Touched
 pub mod WholePlan

@@ -7,7 +7,7 @@ use Rattle.fewest.specs.Counting.{count, one_if}
 use Rattle.fewest.proofs.Counting.{total_le}
 use Rattle.chains.specs.Chains.{Two, in_two, Sound, Closed, holds}
 use Rattle.chains.specs.Statements.{Once, in_part}
-use Rattle.chains.proofs.Members.{append_cases, count_members, fresh_append, fresh_from_once, none_held, once_from_fresh}
+use Rattle.chains.proofs.Members.{append_cases, count_members, fresh_append, fresh_from_once, none_held, once_from_fresh, once_short}
 use Rattle.chains.proofs.Short.{in_either}
 use Rattle.balance.specs.Looking.{Looked, look, looks_of}
 use Rattle.balance.proofs.Passed.{Passed, ended}
@@ -57,3 +57,9 @@ looks_within t sound =
     let in_a = part_of_round t t.a is all.once (λ j h. (all.within j h).0) in
     let in_b = part_of_round t t.b is all.once (λ j h. (all.within j h).0) in
     omega arith
+
+-- and so one at most for each meeting
+pub looks_few : (t : Two) → Sound t → looks_of (look t) ≤ t.many
+looks_few t sound =
+    let all = looked_at t sound in
+    once_short ((look t).passed ++ (look t).taken) t.many all.once (λ j h. (all.within j h).0)

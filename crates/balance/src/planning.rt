@@ -37,6 +37,7 @@ fn plan_on(board: &mut Board<'_>, rounds: u16, scratch: &mut Scratch) -> u64
         &mut scratch.sizes,
         &mut scratch.ordered,
         &mut scratch.found,
+        &mut scratch.touched,
     )
 }
 

@@ -6,12 +6,14 @@ use chains::{Found, Shape};
 use meetings::{MeetingList, Refusal, Side};
 use std::alloc::Global;
 
-// A size for each round, the meetings of two rounds in their order, and what was found while chains were followed.
+// A size for each round, the meetings of two rounds in their order, what was found while chains were followed, and which meetings
+// evening out touched.
 #[derive(Drop)]
 pub(crate) struct Scratch {
     pub(crate) sizes: Vec<u16>,
     pub(crate) ordered: Vec<u16>,
     pub(crate) found: Found,
+    pub(crate) touched: Found,
 }
 
 impl Scratch {
@@ -29,10 +31,12 @@ impl Scratch {
         let sizes = vec![in heap; 0u16; usize::from(rounds)]?;
         let ordered = Vec::with_capacity(heap, 2 * usize::from(shape.parties(Side::Groups)))?;
         let found = Found::none(heap, list.meetings().len())?;
+        let touched = Found::none(heap, list.meetings().len())?;
         Ok(Scratch {
             sizes,
             ordered,
             found,
+            touched,
         })
     }
 }

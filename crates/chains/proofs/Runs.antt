@@ -7,9 +7,9 @@ use Rattle.std.proofs.lemmas.Bool.Decides.{nat_tests}
 use Rattle.meetings.specs.declared.numbers.Side.{Side}
 use Rattle.meetings.specs.declared.numbers.Side.TheVariants.{Groups, Stations}
 use Rattle.meetings.specs.Lists.{other_side}
-use Rattle.chains.specs.Chains.{Two, Sound, Free, swap, near, with_one, with_all, holds, walked, chain}
+use Rattle.chains.specs.Chains.{Two, Sound, Free, swap, near, with_one, with_all, holds, walked, chain, part}
 use Rattle.chains.specs.Statements.{ChainWhole, NeverComes}
-use Rattle.chains.proofs.Members.{not_one, Fresh, unless, none_held, held_cases}
+use Rattle.chains.proofs.Members.{not_one, Fresh, unless, none_held, held_cases, append_cases}
 use Rattle.chains.proofs.Near.{near_found}
 use Rattle.chains.proofs.Walks.{Run, followed, run_same}
 
@@ -33,6 +33,26 @@ run_new t V s j (z ∷ zs) run k h =
     (λ first. ap V first ∙ run.2)
     (λ later. (not_one V z k (run_new t (with_one V z) (other_side s) z zs run.3 k later)).0)
     (held_cases z zs k h)
+
+-- and are meetings
+pub run_below : (t : Two) (V : ℕ → Bool) (s : Side) (j : ℕ) (zs : List ℕ) → Run t V s j zs → (k : ℕ) → holds zs k ≡ true → k < t.many
+run_below t V s j [] run k h = absurd (none_held k h)
+run_below t V s j (z ∷ zs) run k h =
+    ⊎_elim
+    (λ first. omega (arith, first, run.1))
+    (run_below t (with_one V z) (other_side s) z zs run.3 k)
+    (held_cases z zs k h)
+
+-- so all of the part of a meeting are meetings, whatever the two rounds are
+pub part_below : (t : Two) (V : ℕ → Bool) (x : ℕ) → x < t.many → (k : ℕ) → holds (part t V x) k ≡ true → k < t.many
+part_below t V x here k h =
+    ⊎_elim
+    (λ front. ⊎_elim
+    (λ first. omega (arith, first))
+    (run_below t (with_one V x) Groups x (walked t (with_one V x) Groups x) (followed t (with_one V x) Groups x) k)
+    (held_cases x (walked t (with_one V x) Groups x) k front))
+    (run_below t (with_all V (chain t V x)) Stations x (walked t (with_all V (chain t V x)) Stations x) (followed t (with_all V (chain t V x)) Stations x) k)
+    (append_cases (chain t V x) (walked t (with_all V (chain t V x)) Stations x) k h)
 
 pub run_fresh : (t : Two) (V : ℕ → Bool) (s : Side) (j : ℕ) (zs : List ℕ) → Run t V s j zs → Fresh zs
 run_fresh t V s j [] run = tt

@@ -2,13 +2,15 @@ use Rattle.std.proofs.Common.{◌≡◌, length, vec_capacity}
 use Rattle.chains.specs.Boards.{rounds_on}
 use Rattle.balance.specs.Sizes.{size, far}
 use Rattle.balance.proofs.EvenTurns.{Evening}
+use Rattle.balance.proofs.Touched.{Touching}
 use Rattle.balance.proofs.evening.even_out.Given as goal
 
--- the rounds are so far evened out
+-- the rounds are so far evened out, and what that touched is told
 abbrev pub invariant-loop-rounds : goal.invariant-loop-rounds
 invariant-loop-rounds l =
     Evening l.initial.board l.board l.initial.found l.found l.initial.sizes l.sizes (vec_capacity l.ordered) l.looks
     × (vec_capacity l.ordered ≡ vec_capacity l.initial.ordered)
+    × Touching l.initial.board l.board l.initial.touched l.touched l.initial.sizes l.sizes l.looks
 
 -- how far they are from even
 abbrev pub decreases-loop-rounds : goal.decreases-loop-rounds
