@@ -1,1 +1,2 @@
+pub mod PuttingEach
 pub mod Waiting
