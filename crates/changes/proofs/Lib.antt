@@ -1,2 +1,3 @@
+pub mod Again
 pub mod PuttingEach
 pub mod Waiting
