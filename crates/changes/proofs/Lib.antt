@@ -1,3 +1,4 @@
 pub mod Again
+pub mod Leading
 pub mod PuttingEach
 pub mod Waiting
