@@ -1,4 +1,5 @@
 pub mod Again
 pub mod Leading
+pub mod Noted
 pub mod PuttingEach
 pub mod Waiting
