@@ -1,5 +1,7 @@
 pub mod Again
 pub mod Leading
 pub mod Noted
+pub mod ProperAfter
+pub mod PutAnew
 pub mod PuttingEach
 pub mod Waiting
