@@ -75,6 +75,13 @@ there_long d xs (Drop j) e = omega (arith, length-map xs has_round, length-set (
 there_long d xs GiveRoomUp e = omega (arith, length-map xs has_round)
 there_long d xs GetRoom e = omega (arith, length-map xs has_round)
 
+-- no meeting's number is lost
+pub meetings_kept : (d : Contents) (c : Change) → length d.meetings ≤ length (list_after d c).meetings
+meetings_kept d (Add m) = omega (arith, length-append d.meetings (m ∷ []))
+meetings_kept d (Drop j) = omega arith
+meetings_kept d GiveRoomUp = omega arith
+meetings_kept d GetRoom = omega arith
+
 -- meetings from before are with the same parties
 pub parties_kept : (d : Contents) (c : Change) (s : Side) (i : ℕ) → i < length d.meetings → party_of (list_after d c).meetings s i ≡ party_of d.meetings s i
 parties_kept d (Add m) s i h = ap (party s) (get_or_append_left d.meetings (m ∷ []) nobody i h)

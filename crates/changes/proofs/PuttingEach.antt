@@ -90,27 +90,27 @@ module _ (n k r : ℕ) (v : Numbered) (exist : Exist n k v.list.meetings) (few :
 
   -- and when it is put in the others wait
   pub one_put : (i : ℕ) (is xs : List ℕ) (q : Placed) → WhilePutting r v (i ∷ is) xs → PutIn n k r v.list.meetings xs i q → WhilePutting r v is q.rounds
-  one_put i is xs q h put = record {
-    plan = put.plan;
-    there = λ j l low. ⊎_elim (λ this. ap (is_there v) this ∙ (h.waits i (first_held i is)).1) (λ other. ⊎_elim (λ out. absurd (omega (arith, put.others j other out))) (λ was. h.there j l was) (h.plan.round j l)) (cases_eq j i);
-    waits = λ j w. let was = h.waits j (rest_held i is j w) in (was.0, was.1, put.others j (λ this. both_ways (holds is i) h.fresh.0 (ap (holds is) (sym this) ∙ w)) was.2);
+  one_put i is xs q h done = record {
+    plan = done.plan;
+    there = λ j l low. ⊎_elim (λ this. ap (is_there v) this ∙ (h.waits i (first_held i is)).1) (λ other. ⊎_elim (λ out. absurd (omega (arith, done.others j other out))) (λ was. h.there j l was) (h.plan.round j l)) (cases_eq j i);
+    waits = λ j w. let was = h.waits j (rest_held i is j w) in (was.0, was.1, done.others j (λ this. both_ways (holds is i) h.fresh.0 (ap (holds is) (sym this) ∙ w)) was.2);
     fresh = h.fresh.1;
-    all = λ j l there out. ⊎_elim (λ this. absurd (omega (arith, put.placed, ap (round_of q.rounds) this))) (λ later. later) (held_cases i is j (h.all j l there (was_out j l out)));
+    all = λ j l there out. ⊎_elim (λ this. absurd (omega (arith, done.placed, ap (round_of q.rounds) this))) (λ later. later) (held_cases i is j (h.all j l there (was_out j l out)));
   }
     where
       was_out : (j : ℕ) → j < length v.list.meetings → round_of q.rounds j ≡ none → round_of xs j ≡ none
-      was_out j l out = ⊎_elim (λ e. e) (λ low. absurd (omega (arith, put.still j l low))) (h.plan.round j l)
+      was_out j l out = ⊎_elim (λ e. e) (λ low. absurd (omega (arith, done.still j l low))) (h.plan.round j l)
 
   none_more : (p : Placed) → WhilePutting r v [] p.rounds → PutEach n k r v [] p p
   none_more p h = record { after = h; still = λ i l low. low; others = λ i new out. out; looks = omega arith }
 
   -- one that is put in, and the others after it
   one_more : (i : ℕ) (is : List ℕ) (p q e : Placed) → PutIn n k r v.list.meetings p.rounds i q → PutEach n k r v is (placed q.rounds (p.looks + q.looks)) e → PutEach n k r v (i ∷ is) p e
-  one_more i is p q e put rest = record {
+  one_more i is p q e done rest = record {
     after = rest.after;
-    still = λ j l low. rest.still j l (put.still j l low);
-    others = λ j new out. rest.others j (not_held j new) (put.others j (λ this. both_ways (holds (i ∷ is) j) new (ap (holds (i ∷ is)) this ∙ first_held i is)) out);
-    looks = let more = suc-mul (length is) (1 + n + k) in omega (arith, rest.looks, put.looks);
+    still = λ j l low. rest.still j l (done.still j l low);
+    others = λ j new out. rest.others j (not_held j new) (done.others j (λ this. both_ways (holds (i ∷ is) j) new (ap (holds (i ∷ is)) this ∙ first_held i is)) out);
+    looks = let more = suc-mul (length is) (1 + n + k) in omega (arith, rest.looks, done.looks);
   }
     where
       not_held : (j : ℕ) → holds (i ∷ is) j ≡ false → holds is j ≡ false
