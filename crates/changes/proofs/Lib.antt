@@ -1,4 +1,12 @@
-pub mod TakingOut
+pub mod Again
+pub mod Leading
 pub mod MovingTurns
-pub mod SizesKept
 pub mod Named
+pub mod Noted
+pub mod OneChange
+pub mod ProperAfter
+pub mod PutAnew
+pub mod PuttingEach
+pub mod SizesKept
+pub mod TakingOut
+pub mod Waiting
