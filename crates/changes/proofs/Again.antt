@@ -14,7 +14,8 @@ use Rattle.balance.proofs.EvenedOut.{evens_out}
 use Rattle.changes.specs.Days.{has_round}
 use Rattle.changes.specs.Making.{made_again, put_waiting, waiting}
 use Rattle.changes.specs.Numbered.{Numbered}
-use Rattle.changes.proofs.PuttingEach.{PutEach, Spared, WhilePutting, is_there, waiting_puts}
+use Rattle.changes.specs.Waiting.{Spared, WhilePutting, is_there}
+use Rattle.changes.proofs.PuttingEach.{PutEach, waiting_puts}
 
 -- what is left of the rounds xs: those that are there have a round, those that are not have none, and the rounds are even
 pub record MadeAgain (n k r : ℕ) (v : Numbered) (xs : List ℕ) (q : Placed) : Type 0 where

@@ -27,7 +27,8 @@ use Rattle.balance.proofs.Passed.{in_back, in_front}
 use Rattle.changes.specs.Making.{again_steps, made_again, put_each, put_each_steps, put_waiting, waiting}
 use Rattle.changes.specs.Numbered.{Numbered}
 use Rattle.changes.proofs.Again.{again_is, puts_waiting}
-use Rattle.changes.proofs.PuttingEach.{Spared, WhilePutting, each_ready, is_there, one_put}
+use Rattle.changes.specs.Waiting.{Spared, WhilePutting, is_there}
+use Rattle.changes.proofs.PuttingEach.{each_ready, one_put}
 
 -- steps, and then further steps
 pub leads_then : (r : ℕ) (ms : List Meeting) (ts us : List Step) (xs ys zs : List ℕ) → Leads r ms ts xs ys → Leads r ms us ys zs → Leads r ms (ts ++ us) xs zs

@@ -1,13 +1,15 @@
 -- The meetings that the steps of putting in name: those of the chain, and the meeting itself. Assumes nothing.
-use Rattle.std.proofs.Common.{◌≡◌, ℕ, ◌<◌, ◌≤◌, Bool, true, false, cond, ltb, List, [], ◌∷◌, ◌++◌, length, get_or, set, ◌+◌, refl, sym, ap, ◌∙◌, ⊎_elim, arith}
+use Rattle.std.proofs.Common.{◌≡◌, ℕ, ◌<◌, ◌≤◌, Bool, true, false, cond, ltb, List, [], ◌∷◌, ◌++◌, length, get_or, set, ◌+◌, refl, sym, ap, ◌∙◌, arith}
 use Rattle.std.proofs.lemmas.Bool.{cond_both, eq-eqb, ltb-false, ne_eqb}
-use Rattle.std.proofs.lemmas.List.{append-nil}
 use Rattle.meetings.specs.declared.numbers.Meeting.{Meeting}
 use Rattle.meetings.specs.declared.numbers.Side.TheVariants.{Groups, Stations}
 use Rattle.fewest.specs.Counting.{one_if}
 use Rattle.fewest.specs.Plans.{none, in_round}
+use Rattle.chains.specs.declared.found.Found.{Found}
 use Rattle.chains.specs.Chains.{holds}
+use Rattle.chains.specs.Finding.{Finds, found_in, with_new}
 use Rattle.chains.proofs.Members.{none_held}
+use Rattle.chains.proofs.WithNew.{new_append}
 use Rattle.placing.specs.Putting.{common_free, own_free, chain_for}
 use Rattle.placing.specs.Statements.{OneMoreIn, Ready}
 use Rattle.placing.specs.Steps.{all_named, chained, exchange, put_in, put_steps}
@@ -44,3 +46,15 @@ module _ (r : ℕ) (xs ys ns : List ℕ) (c : ℕ) (e : ns ≡ sizes_of r xs) (f
 
   pub one_more_size : set ns c (get_or ns c 0 + 1) ≡ sizes_of r ys
   one_more_size = one_size r xs ys ns c e below (get_or ns c 0 + 1) (omega (arith, was, here)) (λ d h other. one d (λ out. omega arith) ∙ omega (arith, ap one_if (ne_eqb d c other)))
+
+-- a list with the chain, and then with the meeting
+pub put_touches : (u v w : Found) (r : ℕ) (ms : List Meeting) (xs : List ℕ) (i : ℕ) (is : List ℕ) → is ≡ chained r ms xs i → Finds u v (with_new (found_in u) is) → Finds v w (with_new (found_in v) (i ∷ [])) → Finds u w (with_new (found_in u) (all_named (put_steps r ms xs i)))
+put_touches u v w r ms xs i is chain one two = record {
+  among = two.among ∙ one.among;
+  list =
+      two.list
+      ∙ ap (λ l. with_new l (i ∷ [])) one.list
+      ∙ sym (new_append (found_in u) is (i ∷ []))
+      ∙ ap (λ l. with_new (found_in u) (l ++ i ∷ [])) chain
+      ∙ ap (with_new (found_in u)) (sym (put_named r ms xs i));
+}

@@ -22,7 +22,8 @@ use Rattle.changes.proofs.Leading.{again_leads, puts_named, unnamed_stays}
 use Rattle.changes.proofs.Noted.{Dropped, Stays, goes_or_stays, has_still, meetings_kept, round_taken, start_partial, there_long}
 use Rattle.changes.proofs.ProperAfter.{groups_kept, proper_after, stations_kept}
 use Rattle.changes.proofs.PutAnew.{anew_each, anew_even, anew_then, waits_anew}
-use Rattle.changes.proofs.PuttingEach.{Spared, WhilePutting, while_waiting}
+use Rattle.changes.specs.Waiting.{Spared, WhilePutting}
+use Rattle.changes.proofs.PuttingEach.{while_waiting}
 
 -- for any number of rounds that spares the meetings that there are after the change
 module _ (d : Day) (c : Change) (stands : Stands d) (may : can (numbered d) c ≡ true) (r : ℕ) (le : r ≤ none) (spared : Spared r (changed (numbered d) c)) where

@@ -1,7 +1,7 @@
 -- All that wait are put in, one by one: those of a group or station that have a round are among those that are there, and the one
 -- that is put in is there without one, so there is a round for it; and each that is put in leaves the others waiting. Assumes
 -- nothing.
-use Rattle.std.proofs.Common.{◌≡◌, ℕ, ◌+◌, ◌*◌, ◌<◌, ◌≤◌, Bool, true, false, not, ◌&&◌, eqb, ltb, List, [], ◌∷◌, length, get_or, sym, refl, ap, ◌∙◌, ⊎_elim, suc-mul, arith}
+use Rattle.std.proofs.Common.{◌≡◌, ℕ, ◌+◌, ◌*◌, ◌<◌, ◌≤◌, Bool, true, false, not, ◌&&◌, eqb, ltb, List, [], ◌∷◌, length, sym, refl, ap, ◌∙◌, ⊎_elim, suc-mul, arith}
 use Rattle.std.proofs.lemmas.Bool.{and_from, and_parts, both_ways, cases_eq, eq-eqb, eqb-true, ltb-true}
 use Rattle.std.proofs.lemmas.Bool.Decides.{nat_tests}
 use Rattle.meetings.specs.declared.numbers.Side.{Side}
@@ -11,31 +11,14 @@ use Rattle.fewest.specs.Plans.{none}
 use Rattle.fewest.proofs.Counting.{total_le}
 use Rattle.chains.specs.Chains.{holds}
 use Rattle.chains.specs.Partial.{Partial, party_of, round_of}
-use Rattle.chains.proofs.Members.{Fresh, count_but_one, first_held, held_cases, rest_held, unless}
+use Rattle.chains.proofs.Members.{count_but_one, fresh_from_once, once_from_fresh, first_held, held_cases, rest_held, unless}
 use Rattle.placing.specs.Putting.{Placed, placed, put}
 use Rattle.placing.specs.Statements.{PutIn, Ready}
 use Rattle.placing.proofs.PutOne.{puts}
 use Rattle.changes.specs.Making.{put_each, waiting}
 use Rattle.changes.specs.Numbered.{Numbered}
+use Rattle.changes.specs.Waiting.{Spared, WhilePutting, is_there}
 use Rattle.changes.proofs.Waiting.{passing_fresh, passing_has, passing_within}
-
--- whether meeting i was not dropped
-abbrev pub is_there : Numbered → ℕ → Bool
-is_there v i = get_or v.there i false
-
--- of the meetings that are there no group and no station has more than r
-abbrev pub Spared : ℕ → Numbered → Type 0
-Spared r v =
-    (i : ℕ) → i < length v.list.meetings → is_there v i ≡ true → (s : Side) →
-    count (λ j. is_there v j && eqb (party_of v.list.meetings s j) (party_of v.list.meetings s i)) (length v.list.meetings) ≤ r
-
--- while these wait: who has a round is there, and those that wait are all that are there without one
-pub record WhilePutting (r : ℕ) (v : Numbered) (is xs : List ℕ) : Type 0 where
-  pub plan : Partial r v.list.meetings xs
-  pub there : (i : ℕ) → i < length v.list.meetings → round_of xs i < r → is_there v i ≡ true
-  pub waits : (i : ℕ) → holds is i ≡ true → (i < length v.list.meetings) × (is_there v i ≡ true) × (round_of xs i ≡ none)
-  pub fresh : Fresh is
-  pub all : (i : ℕ) → i < length v.list.meetings → is_there v i ≡ true → round_of xs i ≡ none → holds is i ≡ true
 
 -- what is left when all of these are put in: none waits any more
 pub record PutEach (n k r : ℕ) (v : Numbered) (is : List ℕ) (p q : Placed) : Type 0 where
@@ -93,8 +76,8 @@ module _ (n k r : ℕ) (v : Numbered) (exist : Exist n k v.list.meetings) (few :
   one_put i is xs q h done = record {
     plan = done.plan;
     there = λ j l low. ⊎_elim (λ this. ap (is_there v) this ∙ (h.waits i (first_held i is)).1) (λ other. ⊎_elim (λ out. absurd (omega (arith, done.others j other out))) (λ was. h.there j l was) (h.plan.round j l)) (cases_eq j i);
-    waits = λ j w. let was = h.waits j (rest_held i is j w) in (was.0, was.1, done.others j (λ this. both_ways (holds is i) h.fresh.0 (ap (holds is) (sym this) ∙ w)) was.2);
-    fresh = h.fresh.1;
+    waits = λ j w. let was = h.waits j (rest_held i is j w) in (was.0, was.1, done.others j (λ this. both_ways (holds is i) (fresh_from_once (i ∷ is) h.once).0 (ap (holds is) (sym this) ∙ w)) was.2);
+    once = once_from_fresh is (fresh_from_once (i ∷ is) h.once).1;
     all = λ j l there out. ⊎_elim (λ this. absurd (omega (arith, done.placed, ap (round_of q.rounds) this))) (λ later. later) (held_cases i is j (h.all j l there (was_out j l out)));
   }
     where
@@ -133,6 +116,6 @@ while_waiting r v xs plan there = record {
       let p = passing_within (λ i. is_there v i && eqb (round_of xs i) none) (length xs) 0 i w in
       let two = and_parts (is_there v i) (eqb (round_of xs i) none) p.2 in
       (omega (arith, p.1, plan.each), two.0, eqb-true _ _ two.1);
-  fresh = passing_fresh (λ i. is_there v i && eqb (round_of xs i) none) (length xs) 0;
+  once = once_from_fresh (waiting v.there xs) (passing_fresh (λ i. is_there v i && eqb (round_of xs i) none) (length xs) 0);
   all = λ i l here out. passing_has (λ i. is_there v i && eqb (round_of xs i) none) (length xs) 0 i (omega arith) (omega (arith, plan.each)) (and_from (is_there v i) (eqb (round_of xs i) none) here (eq-eqb _ _ out));
 }

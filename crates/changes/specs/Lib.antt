@@ -5,3 +5,4 @@ pub mod Numbered
 pub mod OnBoard
 pub mod Statements
 pub mod Told
+pub mod Waiting
