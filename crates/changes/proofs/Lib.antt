@@ -10,3 +10,4 @@ pub mod PuttingEach
 pub mod SizesKept
 pub mod TakingOut
 pub mod Waiting
+pub mod PuttingTurns

@@ -1,5 +1,6 @@
 -- The meetings that the steps of putting in name: those of the chain, and the meeting itself. Assumes nothing.
 use Rattle.std.proofs.Common.{◌≡◌, ℕ, ◌<◌, ◌≤◌, Bool, true, false, cond, ltb, List, [], ◌∷◌, ◌++◌, length, get_or, set, ◌+◌, refl, sym, ap, ◌∙◌, arith}
+use Rattle.std.proofs.lemmas.List.{append_assoc}
 use Rattle.std.proofs.lemmas.Bool.{cond_both, eq-eqb, ltb-false, ne_eqb}
 use Rattle.meetings.specs.declared.numbers.Meeting.{Meeting}
 use Rattle.meetings.specs.declared.numbers.Side.TheVariants.{Groups, Stations}
@@ -12,19 +13,20 @@ use Rattle.chains.proofs.Members.{none_held}
 use Rattle.chains.proofs.WithNew.{new_append}
 use Rattle.placing.specs.Putting.{common_free, own_free, chain_for}
 use Rattle.placing.specs.Statements.{OneMoreIn, Ready}
-use Rattle.placing.specs.Steps.{all_named, chained, exchange, put_in, put_steps}
+use Rattle.placing.specs.Steps as steps
+use Rattle.placing.specs.Steps.{Step, all_named, chained, exchange, put_in, put_steps}
 use Rattle.placing.proofs.Opens.{chain_opens}
 use Rattle.balance.specs.Sizes.{sizes_of}
 use Rattle.balance.proofs.Counted.{size_at, size_short}
 use Rattle.changes.proofs.SizesKept.{one_size}
 
-named : (i : ℕ) (b : Bool) (c a e : ℕ) (is : List ℕ) → all_named (cond b (put_in i c ∷ []) (exchange a e (cond b [] is) ∷ put_in i a ∷ [])) ≡ cond b [] is ++ i ∷ []
-named i true c a e is = refl
-named i false c a e is = refl
+put_or_chain : (i : ℕ) (b : Bool) (c a e : ℕ) (is : List ℕ) → all_named (cond b (put_in i c ∷ []) (exchange a e (cond b [] is) ∷ put_in i a ∷ [])) ≡ cond b [] is ++ i ∷ []
+put_or_chain i true c a e is = refl
+put_or_chain i false c a e is = refl
 
 module _ (r : ℕ) (ms : List Meeting) (xs : List ℕ) (i : ℕ) where
   pub put_named : all_named (put_steps r ms xs i) ≡ chained r ms xs i ++ i ∷ []
-  put_named = named i (ltb (common_free r ms xs i) r) (common_free r ms xs i) (own_free r ms xs i Groups) (own_free r ms xs i Stations) (chain_for ms xs i (own_free r ms xs i Groups) (own_free r ms xs i Stations))
+  put_named = put_or_chain i (ltb (common_free r ms xs i) r) (common_free r ms xs i) (own_free r ms xs i Groups) (own_free r ms xs i Stations) (chain_for ms xs i (own_free r ms xs i Groups) (own_free r ms xs i Stations))
 
   -- the chain is among the meetings
   pub chained_below : (n k : ℕ) → Ready n k r ms xs i → (j : ℕ) → holds (chained r ms xs i) j ≡ true → j < length ms
@@ -58,3 +60,8 @@ put_touches u v w r ms xs i is chain one two = record {
       ∙ ap (λ l. with_new (found_in u) (l ++ i ∷ [])) chain
       ∙ ap (with_new (found_in u)) (sym (put_named r ms xs i));
 }
+
+-- the meetings that steps name, one list after the other
+pub named_append : (ts us : List Step) → all_named (ts ++ us) ≡ all_named ts ++ all_named us
+named_append [] us = refl
+named_append (t ∷ ts) us = ap (λ l. steps.named t ++ l) (named_append ts us) ∙ sym (append_assoc (steps.named t) (all_named ts) (all_named us))

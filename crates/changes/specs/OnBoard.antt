@@ -6,7 +6,10 @@ use Rattle.chains.specs.declared.board.Board.{Board}
 use Rattle.chains.specs.Boards.{Becomes, meetings_on, rounds_on}
 use Rattle.chains.specs.Chains.{holds}
 use Rattle.chains.specs.Partial.{party_of, round_of}
+use Rattle.chains.specs.Rows.{ManyWithin}
 use Rattle.chains.specs.Statements.{Once}
+use Rattle.changes.specs.Numbered.{Numbered}
+use Rattle.changes.specs.Waiting.{Spared, WhilePutting}
 
 -- a meeting that is in one of the rounds from the first of these to the second, which is not one of them
 abbrev pub goes : Board → ℕ → ℕ → ℕ → Bool
@@ -32,3 +35,11 @@ pub record TakesOut (d e : Board) (is js : List ℕ) (passes : ℕ → Bool) : T
 pub record Noted (before before' xs is : List ℕ) : Type 0 where
   pub long : length before' ≡ length before
   pub now : (i : ℕ) → round_of before' i ≡ cond (holds is i) (round_of xs i) (round_of before i)
+
+-- on the board d these wait, and can be put in one by one into one of r rounds
+pub record CanPut (d : Board) (r : ℕ) (is : List ℕ) : Type 0 where
+  pub v : Numbered
+  pub meetings : meetings_on d ≡ v.list.meetings
+  pub within : ManyWithin d.shape r
+  pub spared : Spared r v
+  pub waiting : WhilePutting r v is (rounds_on d)
