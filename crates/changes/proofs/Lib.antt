@@ -1,2 +1,3 @@
+pub mod FirstDay
 pub mod Left
 pub mod Standing
