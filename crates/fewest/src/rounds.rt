@@ -12,7 +12,7 @@ use std::alloc::Global;
 // The fewest rounds in which all meetings can be held: the larger of what the busiest group or station has, and of what the
 // rooms ask for. It is the least number that suffices for the busiest and for the rooms, and no plan within the rooms has
 // fewer. Only memory can be wanting.
-#[tactic(auto, using(crate::proofs::NoFewer::rounded_up, crate::proofs::NoFewer::least_said))]
+#[tactic(auto, using(crate::proofs::NoFewer::least_said))]
 pub fn fewest_rounds(heap: Global, list: &MeetingList) -> Result<u16, Refusal>
     ensures answer { IfMemory result (λ x. x ≡ fewest (contents list.now)) }
     ensures least { IfOk result (Least (contents list.now)) }
@@ -20,6 +20,5 @@ pub fn fewest_rounds(heap: Global, list: &MeetingList) -> Result<u16, Refusal>
 {
     let tally = Tally::of(heap, list)?;
     // `as`, since it is proved to fit
-    let by_rooms = (list.meetings().len() as u16).div_ceil(list.rooms());
-    Ok(tally.busiest().max(by_rooms))
+    Ok(tally.rounds(list.meetings().len() as u16, list.rooms()))
 }
