@@ -1,3 +1,4 @@
 pub mod FirstDay
 pub mod Left
+pub mod LeftChanged
 pub mod Standing
