@@ -1,4 +1,5 @@
 pub mod FirstDay
+pub mod Keeping
 pub mod Left
 pub mod LeftChanged
 pub mod Standing

@@ -2,4 +2,5 @@ pub mod Days
 pub mod Kinds
 pub mod Making
 pub mod Numbered
+pub mod Registered
 pub mod Statements

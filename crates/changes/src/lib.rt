@@ -3,5 +3,6 @@
 #![tactic(auto)]
 
 mod change;
+mod register;
 
 pub use change::Change;
