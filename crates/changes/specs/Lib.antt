@@ -4,3 +4,4 @@ pub mod Making
 pub mod Numbered
 pub mod Registered
 pub mod Statements
+pub mod Tested

@@ -4,5 +4,7 @@
 
 mod change;
 mod register;
+mod tested;
+mod testing;
 
 pub use change::Change;

@@ -52,7 +52,6 @@ impl Register {
 
     // Whether a change can be made.
     pub(crate) fn can(&self, change: Change) -> bool
-        requires { Kept self.now }
         ensures { result ≡ can (registered self.now) change }
     {
         match change {
@@ -65,6 +64,13 @@ impl Register {
             Change::GiveRoomUp => self.rooms > 1,
             Change::GetRoom => self.rooms < MOST,
         }
+    }
+
+    // All meetings that have a number.
+    pub(crate) fn into_meetings(self) -> Vec<Meeting>
+        ensures { result.items ≡ (registered self).list.meetings }
+    {
+        self.meetings
     }
 
     // The number of rounds of the meetings that there are.
@@ -83,8 +89,7 @@ impl Register {
             crate::proofs::Keeping::station_counted,
             crate::proofs::Keeping::group_fits,
             crate::proofs::Keeping::station_fits,
-            crate::proofs::Keeping::many_fits,
-            crate::proofs::Keeping::added
+            crate::proofs::Keeping::many_fits
         )
     )]
     fn add(&mut self, meeting: Meeting) -> Result<(), Refusal>
@@ -107,8 +112,7 @@ impl Register {
             crate::proofs::Keeping::gone_station_counted,
             crate::proofs::Keeping::group_some,
             crate::proofs::Keeping::station_some,
-            crate::proofs::Keeping::many_some,
-            crate::proofs::Keeping::dropped
+            crate::proofs::Keeping::many_some
         )
     )]
     fn drop_meeting(&mut self, id: MeetingId)
