@@ -1,5 +1,9 @@
 pub mod Again
+pub mod FirstDay
+pub mod Keeping
 pub mod Leading
+pub mod Left
+pub mod LeftChanged
 pub mod MovingTurns
 pub mod Named
 pub mod Noted
@@ -7,7 +11,8 @@ pub mod OneChange
 pub mod ProperAfter
 pub mod PutAnew
 pub mod PuttingEach
+pub mod PuttingTurns
 pub mod SizesKept
+pub mod Standing
 pub mod TakingOut
 pub mod Waiting
-pub mod PuttingTurns

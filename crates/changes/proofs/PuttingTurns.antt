@@ -1,6 +1,6 @@
 -- One turn of putting in those that wait: what is left gives, by the rule, what the whole gives, and touches what the whole touches.
 -- Assumes nothing.
-use Rattle.std.proofs.Common.{◌≡◌, ℕ, suc, ◌+◌, ◌*◌, ◌<◌, ◌≤◌, List, [], ◌∷◌, ◌++◌, length, get_or, drop, sym, refl, ap, ◌∙◌, subst, suc-mul, arith}
+use Rattle.std.proofs.Common.{◌≡◌, ℕ, ◌+◌, ◌*◌, ◌<◌, ◌≤◌, List, [], ◌∷◌, ◌++◌, length, get_or, drop, sym, refl, ap, ◌∙◌, subst, suc-mul, arith}
 use Rattle.std.proofs.lemmas.List.{at_drop_more}
 use Rattle.meetings.specs.declared.numbers.Meeting.{Meeting}
 use Rattle.meetings.specs.Lists.{Exist}
@@ -14,11 +14,11 @@ use Rattle.chains.proofs.BoardKept.{becomes_same, becomes_then}
 use Rattle.chains.proofs.ChainTurns.{finds_then}
 use Rattle.chains.proofs.RowsRead.{side_rows}
 use Rattle.chains.proofs.WithNew.{new_append}
-use Rattle.placing.specs.OnBoard.{PutOn, ReadyOn}
+use Rattle.placing.specs.OnBoard.{PutOn}
 use Rattle.placing.specs.Putting.{Placed, placed, put}
 use Rattle.placing.specs.Statements.{PutIn, Ready}
-use Rattle.placing.specs.Steps.{Step, all_named, put_steps}
-use Rattle.placing.proofs.AllTurns.{finds_same, still_unused}
+use Rattle.placing.specs.Steps.{all_named, put_steps}
+use Rattle.placing.proofs.AllTurns.{finds_same}
 use Rattle.balance.specs.Sizes.{sizes_of}
 use Rattle.balance.proofs.Counted.{sizes_long}
 use Rattle.changes.specs.Making.{put_each, put_each_steps}

@@ -5,6 +5,7 @@ use Rattle.fewest.specs.Counting.{count}
 use Rattle.fewest.specs.Plans.{none, Plan, Rooms}
 use Rattle.fewest.specs.Statements.{LeastOfPlans}
 use Rattle.chains.specs.Partial.{Partial, round_of}
+use Rattle.balance.specs.Lent.{plan_of}
 use Rattle.balance.specs.Statements.{Evened}
 use Rattle.changes.specs.Numbered.{Numbered, left, rounds_for, those}
 
@@ -23,6 +24,10 @@ numbered d = record { list = d.list; there = map has_round d.at }
 -- the number of rounds of a day
 abbrev pub rounds_of : Day → ℕ
 rounds_of d = rounds_for (numbered d)
+
+-- the first day of a list: no meeting was dropped, and the rounds are those of the rule's plan
+abbrev pub first_day : Contents → Day
+first_day d = record { list = d; at = (plan_of d).rounds }
 
 -- WHAT HOLDS OF A DAY: the meetings that there are have a plan of the fewest rounds, within the rooms and even; no plan of them
 -- within the rooms, by anybody, has fewer rounds

@@ -3,6 +3,8 @@ pub mod Kinds
 pub mod Making
 pub mod Numbered
 pub mod OnBoard
+pub mod Registered
 pub mod Statements
+pub mod Tested
 pub mod Told
 pub mod Waiting

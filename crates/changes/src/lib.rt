@@ -6,8 +6,11 @@ mod change;
 mod changed;
 mod moving;
 mod putting;
+mod register;
 mod sizes;
 mod taking;
+mod tested;
+mod testing;
 
 pub use change::Change;
 pub use changed::Changed;

@@ -1,14 +1,16 @@
 -- No plan has fewer rounds: each round has at most one meeting of a party, and at most as many as there are rooms; counted
 -- round by round these are all. Assumes nothing.
-use Rattle.std.proofs.Common.{min, ◌≡◌, ℕ, suc, ◌+◌, ◌-◌, ◌*◌, ◌/◌, ◌%◌, ◌<◌, ◌≤◌, Bool, true, false, ◌&&◌, eqb, ltb, List, length, get_or, sym, refl, ap, ◌∙◌, mul-le-mul_right, mod-lt, suc-mul, div-lt_iff_lt-mul, div-add-mod', zero-mul, arith}
+use Rattle.std.proofs.Common.{min, ◌≡◌, ℕ, suc, ◌+◌, ◌-◌, ◌*◌, ◌/◌, ◌%◌, ◌<◌, ◌≤◌, Bool, true, false, ◌&&◌, eqb, ltb, List, length, get_or, Result, Ok, Err, IfOk, sym, refl, ap, ◌∙◌, mul-le-mul_right, mod-lt, suc-mul, div-lt_iff_lt-mul, div-add-mod', zero-mul, arith}
 use Rattle.std.proofs.lemmas.Grind.{div_ceil_times}
 use Rattle.std.proofs.lemmas.Nat.{le-div}
 use Rattle.std.proofs.lemmas.List.Sums.{count_by-le-length}
 use Rattle.std.proofs.lemmas.Bool.{and_parts, eqb-true, lt-ltb}
 use Rattle.meetings.specs.declared.numbers.Meeting.{Meeting}
+use Rattle.meetings.specs.declared.refusal.Refusal.{Refusal}
 use Rattle.meetings.specs.declared.numbers.Side.{Side}
 use Rattle.meetings.specs.declared.numbers.Side.TheVariants.{Groups, Stations}
 use Rattle.meetings.specs.Lists.{Contents, party, nobody}
+use Rattle.meetings.specs.Refusals.{IfMemory}
 use Rattle.fewest.specs.Counting.{count}
 use Rattle.fewest.specs.Plans.{none, Plan, Rooms, in_round}
 use Rattle.fewest.specs.Rounds.{meetings_of, numbers, largest, fewest}
@@ -115,3 +117,8 @@ least_said d x some e = rw e (fewest_least d some)
 
 pub no_fewer_said : (d : Contents) (x : ℕ) → 1 ≤ d.rooms → x ≡ fewest d → LeastOfPlans d x
 no_fewer_said d x some e r xs plan rooms = rw e (no_fewer d r xs some plan rooms).1
+
+-- and of what is answered, if anything is
+pub no_fewer_answered : (d : Contents) (o : Result ℕ Refusal) → 1 ≤ d.rooms → IfMemory o (λ x. x ≡ fewest d) → IfOk o (LeastOfPlans d)
+no_fewer_answered d (Ok x) some e = no_fewer_said d x some e
+no_fewer_answered d (Err e) some h = tt

@@ -1,5 +1,5 @@
 -- What the code's tally holds. Assumes nothing.
-use Rattle.std.specs.Prelude.{◌≡◌, ℕ, ◌<◌, List, length, vec_items, slice_index}
+use Rattle.std.specs.Prelude.{◌≡◌, ℕ, ◌+◌, ◌-◌, ◌<◌, List, length, vec_items, slice_index, slice_set}
 use Rattle.meetings.specs.declared.numbers.Meeting.{Meeting}
 use Rattle.meetings.specs.declared.numbers.Side.{Side}
 use Rattle.meetings.specs.declared.numbers.Side.TheVariants.{Groups, Stations}
@@ -15,3 +15,10 @@ Tallied s ms xs = (p : ℕ) → p < length xs → slice_index xs p ≡ meetings_
 pub record Counts (d : Contents) (t : Tally) : Type 0 where
   pub of_groups : vec_items t.groups ≡ numbers Groups d
   pub of_stations : vec_items t.stations ≡ numbers Stations d
+
+-- one meeting of party p more, and one fewer
+abbrev pub one_more : List ℕ → ℕ → List ℕ
+one_more xs p = slice_set xs p (slice_index xs p + 1)
+
+abbrev pub one_fewer : List ℕ → ℕ → List ℕ
+one_fewer xs p = slice_set xs p (slice_index xs p - 1)

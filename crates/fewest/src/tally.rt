@@ -1,11 +1,11 @@
 // How many meetings each group and each station has.
-ghost use Rattle.std.specs.Prelude.{◌≡◌, ◌≤◌, max, [], length};
+ghost use Rattle.std.specs.Prelude.{◌≡◌, ◌<◌, ◌≤◌, max, [], length, slice_index};
 ghost use Rattle.meetings.specs.Held.{contents};
 ghost use Rattle.meetings.specs.Lists.{Contents, Exist, most_meetings};
 ghost use Rattle.meetings.specs.declared.numbers.Side.TheVariants.{Groups, Stations};
 ghost use Rattle.meetings.specs.Refusals.{IfMemory};
-ghost use Rattle.fewest.specs.Rounds.{busiest, largest};
-ghost use Rattle.fewest.specs.Tallies.{Counts, Tallied};
+ghost use Rattle.fewest.specs.Rounds.{busiest, divided_up, fewest, largest};
+ghost use Rattle.fewest.specs.Tallies.{Counts, Tallied, one_fewer, one_more};
 
 use meetings::{Meeting, MeetingList, Refusal};
 use std::alloc::Global;
@@ -73,5 +73,42 @@ impl Tally {
         ensures value { result ≡ max (largest self.now.groups.items) (largest self.now.stations.items) }
     {
         largest_of(&self.groups).max(largest_of(&self.stations))
+    }
+
+    // The fewest rounds for so many meetings, of which this is the tally: the larger of what the busiest has, and of what the
+    // rooms ask for.
+    #[tactic(auto, using(crate::proofs::NoFewer::rounded_up))]
+    pub fn rounds(&self, many: u16, rooms: u16) -> u16
+        requires { 1 ≤ rooms }
+        ensures of_list { (d : Contents) → Counts d self.now → length d.meetings ≡ many → d.rooms ≡ rooms → result ≡ fewest d }
+        ensures value { result ≡ max (max (largest self.now.groups.items) (largest self.now.stations.items)) (divided_up many rooms) }
+    {
+        self.busiest().max(many.div_ceil(rooms))
+    }
+
+    // Counts one meeting more, for its group and for its station.
+    pub fn add(&mut self, meeting: Meeting)
+        requires group { meeting.group.0 < length self.old.groups.items }
+        requires station { meeting.station.0 < length self.old.stations.items }
+        requires group_fits { slice_index self.old.groups.items meeting.group.0 < 65535 }
+        requires station_fits { slice_index self.old.stations.items meeting.station.0 < 65535 }
+        ensures groups { self.new.groups.items ≡ one_more self.old.groups.items meeting.group.0 }
+        ensures stations { self.new.stations.items ≡ one_more self.old.stations.items meeting.station.0 }
+    {
+        self.groups[meeting.group.0 as usize] += 1;
+        self.stations[meeting.station.0 as usize] += 1;
+    }
+
+    // Counts one meeting fewer.
+    pub fn remove(&mut self, meeting: Meeting)
+        requires group { meeting.group.0 < length self.old.groups.items }
+        requires station { meeting.station.0 < length self.old.stations.items }
+        requires group_some { 1 ≤ slice_index self.old.groups.items meeting.group.0 }
+        requires station_some { 1 ≤ slice_index self.old.stations.items meeting.station.0 }
+        ensures groups { self.new.groups.items ≡ one_fewer self.old.groups.items meeting.group.0 }
+        ensures stations { self.new.stations.items ≡ one_fewer self.old.stations.items meeting.station.0 }
+    {
+        self.groups[meeting.group.0 as usize] -= 1;
+        self.stations[meeting.station.0 as usize] -= 1;
     }
 }

@@ -1,0 +1,145 @@
+-- What a change leaves is a proper list with a mark for each meeting; an added meeting comes behind those that there are, and a
+-- dropped one goes from among them. So a tally of those that there are stays one. Assumes nothing.
+use Rattle.std.proofs.Common.{◌≡◌, ℕ, zero, suc, ◌+◌, ◌<◌, Bool, true, false, ◌&&◌, eqb, ltb, List, [], ◌∷◌, ◌++◌, length, get_or, set, count_by, refl, ap, ◌∙◌, ◌-◌, ⊎_elim, arith}
+use Rattle.std.proofs.lemmas.Bool.{and_parts, both_ways, cases_lt, ltb-true}
+use Rattle.std.proofs.lemmas.List.{get_or_append_left, get_or-append_right, get_or_past, length-append, length-set}
+use Rattle.std.proofs.lemmas.List.Sums.{sum_by-append, sum_by-cons}
+use Rattle.meetings.specs.declared.numbers.Meeting.{Meeting}
+use Rattle.meetings.specs.declared.numbers.MeetingId.{MeetingId}
+use Rattle.meetings.specs.declared.numbers.Side.{Side}
+use Rattle.meetings.specs.declared.numbers.Side.TheVariants.{Groups, Stations}
+use Rattle.meetings.specs.Lists.{Exist, Proper, most, most_meetings, nobody, parties, party}
+use Rattle.fewest.specs.Counting.{one_if}
+use Rattle.fewest.specs.Rounds.{meetings_of}
+use Rattle.fewest.proofs.OneCounted.{OneApart, one_pushed}
+use Rattle.changes.specs.declared.change.Change.{Change}
+use Rattle.changes.specs.declared.change.Change.TheVariants.{Add, Drop, GetRoom, GiveRoomUp}
+use Rattle.changes.specs.Numbered.{Numbered, can, changed, left, those}
+
+module _ {A : Type 0} where
+  -- a marked element at the end
+  those_pushed : (bs : List Bool) (xs : List A) (x : A) → length bs ≡ length xs → those (bs ++ true ∷ []) (xs ++ x ∷ []) ≡ those bs xs ++ x ∷ []
+  those_pushed [] [] x e = refl
+  those_pushed [] (y ∷ xs) x e = absurd (omega arith)
+  those_pushed (b ∷ bs) [] x e = absurd (omega arith)
+  those_pushed (true ∷ bs) (y ∷ xs) x e = ap (λ l. y ∷ l) (those_pushed bs xs x (omega arith))
+  those_pushed (false ∷ bs) (y ∷ xs) x e = those_pushed bs xs x (omega arith)
+
+  -- a mark is taken away: the element goes from between those before it and those behind it
+  record Without (bs : List Bool) (xs : List A) (d : A) (i : ℕ) : Type 0 where
+    pub front : List A
+    pub back : List A
+    pub before : those bs xs ≡ front ++ get_or xs i d ∷ back
+    pub after : those (set bs i false) xs ≡ front ++ back
+
+  those_without : (bs : List Bool) (xs : List A) (d : A) (i : ℕ) → length bs ≡ length xs → get_or bs i false ≡ true → Without bs xs d i
+  those_without [] xs d i e h = absurd (both_ways (get_or [] i false) refl h)
+  those_without (b ∷ bs) [] d i e h = absurd (omega arith)
+  those_without (false ∷ bs) (x ∷ xs) d zero e h = absurd (both_ways false refl h)
+  those_without (true ∷ bs) (x ∷ xs) d zero e h = record { front = []; back = those bs xs; before = refl; after = refl }
+  those_without (false ∷ bs) (x ∷ xs) d (suc i) e h =
+      let rest = those_without bs xs d i (omega arith) h in
+      record { front = rest.front; back = rest.back; before = rest.before; after = rest.after }
+  those_without (true ∷ bs) (x ∷ xs) d (suc i) e h =
+      let rest = those_without bs xs d i (omega arith) h in
+      record { front = x ∷ rest.front; back = rest.back; before = ap (λ l. x ∷ l) rest.before; after = ap (λ l. x ∷ l) rest.after }
+
+  without_many : (bs : List Bool) (xs : List A) (d : A) (i : ℕ) → Without bs xs d i → suc (length (those (set bs i false) xs)) ≡ length (those bs xs)
+  without_many bs xs d i w =
+      omega (arith, ap length w.before, ap length w.after, length-append w.front w.back, length-append w.front (get_or xs i d ∷ w.back))
+
+  without_counted : (q : A → Bool) (bs : List Bool) (xs : List A) (d : A) (i : ℕ) → Without bs xs d i → count_by q (those bs xs) ≡ count_by q (those (set bs i false) xs) + one_if (q (get_or xs i d))
+  without_counted q bs xs d i w =
+      let f = λ (x : A). one_if (q x) in
+      omega (arith, ap (count_by q) w.before, ap (count_by q) w.after, sum_by-append f w.front w.back, sum_by-append f w.front (get_or xs i d ∷ w.back), sum_by-cons f (get_or xs i d) w.back)
+
+-- where an added meeting's parties exist
+pub record CanAdd (v : Numbered) (m : Meeting) : Type 0 where
+  pub exist : (s : Side) → party s m < parties s v.list.groups v.list.stations
+  pub few : length v.list.meetings < most_meetings
+
+pub can_add : (v : Numbered) (m : Meeting) → can v (Add m) ≡ true → CanAdd v m
+can_add v m h =
+    let both = and_parts (ltb m.group.0 v.list.groups && ltb m.station.0 v.list.stations) (ltb (length v.list.meetings) most_meetings) h in
+    let parties = and_parts (ltb m.group.0 v.list.groups) (ltb m.station.0 v.list.stations) both.0 in
+    record { exist = each (ltb-true _ _ parties.0) (ltb-true _ _ parties.1); few = ltb-true _ _ both.1 }
+  where
+    each : m.group.0 < v.list.groups → m.station.0 < v.list.stations → (s : Side) → party s m < parties s v.list.groups v.list.stations
+    each g t Groups = g
+    each g t Stations = t
+
+exist_pushed : (n k : ℕ) (ms : List Meeting) (m : Meeting) → ((s : Side) → party s m < parties s n k) → Exist n k ms → Exist n k (ms ++ m ∷ [])
+exist_pushed n k ms m one each s i h =
+    ⊎_elim
+    (λ before. rw (get_or_append_left ms (m ∷ []) nobody i before) (each s i before))
+    (λ from.
+    let last : i - length ms ≡ 0 = omega (arith, length-append ms (m ∷ [])) in
+    rw (get_or-append_right ms (m ∷ []) (length ms) i nobody refl from, last) (one s))
+    (cases_lt i (length ms))
+
+module _ (v : Numbered) (long : length v.there ≡ length v.list.meetings) where
+  -- as many marks as meetings
+  pub long_changed : (c : Change) → length (changed v c).there ≡ length (changed v c).list.meetings
+  long_changed (Add m) = omega (arith, length-append v.there (true ∷ []), length-append v.list.meetings (m ∷ []))
+  long_changed (Drop i) = length-set v.there i.0 false ∙ long
+  long_changed GiveRoomUp = long
+  long_changed GetRoom = long
+
+  -- a proper list stays proper
+  pub proper_changed : (c : Change) → Proper v.list → can v c ≡ true → Proper (changed v c).list
+  proper_changed (Add m) proper h =
+      let may = can_add v m h in
+      record {
+        groups_within = proper.groups_within;
+        stations_within = proper.stations_within;
+        rooms_within = proper.rooms_within;
+        few = omega (arith, length-append v.list.meetings (m ∷ []), may.few);
+        exist = exist_pushed v.list.groups v.list.stations v.list.meetings m may.exist proper.exist;
+      }
+  proper_changed (Drop i) proper h = proper
+  proper_changed GiveRoomUp proper h =
+      let more = ltb-true 1 v.list.rooms h in
+      record {
+        groups_within = proper.groups_within;
+        stations_within = proper.stations_within;
+        rooms_within = (omega arith, omega (arith, proper.rooms_within.1));
+        few = proper.few;
+        exist = proper.exist;
+      }
+  proper_changed GetRoom proper h =
+      let fewer = ltb-true v.list.rooms most h in
+      record {
+        groups_within = proper.groups_within;
+        stations_within = proper.stations_within;
+        rooms_within = (omega arith, omega arith);
+        few = proper.few;
+        exist = proper.exist;
+      }
+
+  -- an added meeting is at the end
+  pub left_added : (m : Meeting) → (left (changed v (Add m))).meetings ≡ (left v).meetings ++ m ∷ []
+  left_added m = those_pushed v.there v.list.meetings m long
+
+  pub added_apart : (m : Meeting) → can v (Add m) ≡ true → OneApart (left v) (left (changed v (Add m))) m
+  added_apart m h = let apart = one_pushed (left v) m (can_add v m h).exist in record {
+    groups = refl;
+    stations = refl;
+    exist = apart.exist;
+    each = λ s p. ap (meetings_of s p) (left_added m) ∙ apart.each s p;
+  }
+
+  -- a dropped one was there
+  pub drop_here : (i : MeetingId) → can v (Drop i) ≡ true → i.0 < length v.list.meetings
+  drop_here i h =
+      ⊎_elim (λ below. below) (λ past. absurd (both_ways (get_or v.there i.0 false) (get_or_past v.there i.0 false (omega arith)) h)) (cases_lt i.0 (length v.list.meetings))
+
+  pub dropped_many : (i : MeetingId) → can v (Drop i) ≡ true → suc (length (left (changed v (Drop i))).meetings) ≡ length (left v).meetings
+  dropped_many i h = without_many v.there v.list.meetings nobody i.0 (those_without v.there v.list.meetings nobody i.0 long h)
+
+  pub dropped_apart : (i : MeetingId) → Exist v.list.groups v.list.stations v.list.meetings → can v (Drop i) ≡ true → OneApart (left (changed v (Drop i))) (left v) (get_or v.list.meetings i.0 nobody)
+  dropped_apart i exist h = record {
+    groups = refl;
+    stations = refl;
+    exist = λ s. exist s i.0 (drop_here i h);
+    each = λ s p. without_counted (λ m. eqb (party s m) p) v.there v.list.meetings nobody i.0 (those_without v.there v.list.meetings nobody i.0 long h);
+  }
