@@ -1,5 +1,5 @@
 -- What is looked at is the part, which is behind all that was found before.
-use Rattle.std.proofs.Common.{length, take, drop, sym, ap, ◌∙◌}
+use Rattle.std.proofs.Common.{length, drop, sym, ap, ◌∙◌}
 use Rattle.std.proofs.lemmas.List.{drop_at}
 use Rattle.chains.specs.Boards.{two_on}
 use Rattle.chains.specs.Chains.{holds}
