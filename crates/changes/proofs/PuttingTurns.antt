@@ -25,7 +25,7 @@ use Rattle.changes.specs.Making.{put_each, put_each_steps}
 use Rattle.changes.specs.OnBoard.{CanPut}
 use Rattle.changes.proofs.Named.{named_append}
 use Rattle.changes.proofs.PuttingEach.{each_ready, one_put}
-use Rattle.changes.proofs.TakingOut.{once_short}
+use Rattle.chains.proofs.Members.{once_short}
 
 -- the board d has become e, those from place t on wait still, with so many looks so far
 pub record PuttingOn (d e : Board) (v w tv tw : Found) (r : ℕ) (is ns : List ℕ) (t looks : ℕ) : Type 0 where

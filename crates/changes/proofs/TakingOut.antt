@@ -1,41 +1,21 @@
 -- Meetings are taken out one after the other: those that have gone are the ones that pass, and each is in the list once, since a
 -- meeting that is in the list has no round and is not met again. Assumes nothing.
-use Rattle.std.proofs.Common.{◌≡◌, ℕ, ◌+◌, ◌<◌, ◌≤◌, Bool, true, false, cond, ◌&&◌, ◌||◌, eqb, leb, ltb, List, [], ◌∷◌, ◌++◌, length, set, count_by, sym, refl, ap, ◌∙◌, ⊎_elim, arith}
+use Rattle.std.proofs.Common.{◌≡◌, ℕ, ◌+◌, ◌<◌, ◌≤◌, Bool, true, false, cond, ◌&&◌, ◌||◌, eqb, leb, ltb, List, [], ◌∷◌, ◌++◌, length, set, sym, refl, ap, ◌∙◌, ⊎_elim, arith}
 use Rattle.std.proofs.lemmas.Bool.{both_ways, cases_Bool, cases_eq, cases_lt, cond-true, cond-false, eq-eqb, ne_eqb}
 use Rattle.std.proofs.lemmas.Bool.Decides.{nat_tests}
 use Rattle.std.proofs.lemmas.List.{get_or-set_same, get_or-set_other, length-append}
 use Rattle.meetings.specs.declared.numbers.Side.TheVariants.{Groups}
-use Rattle.std.proofs.lemmas.List.Sums.{sum_by-cons}
-use Rattle.fewest.specs.Counting.{one_if}
 use Rattle.fewest.specs.Plans.{none}
-use Rattle.fewest.proofs.Counting.{total_at_most}
 use Rattle.chains.specs.declared.board.Board.{Board}
 use Rattle.chains.specs.Boards.{Becomes, meetings_on, rounds_on}
 use Rattle.chains.specs.Chains.{holds, with_one}
 use Rattle.chains.specs.Partial.{party_of, round_of, meeting_of}
 use Rattle.chains.specs.Rows.{parties_of, width_of}
-use Rattle.chains.specs.Statements.{Once}
 use Rattle.chains.proofs.BoardKept.{becomes_same, becomes_then}
 use Rattle.chains.proofs.Entries.{at_cases, at_found, at_none}
 use Rattle.chains.proofs.Marks.{holds_more}
-use Rattle.chains.proofs.Members.{count_members, fresh_append, fresh_from_once, held_cases, none_held, once_from_fresh, one_cases, unless}
+use Rattle.chains.proofs.Members.{fresh_append, fresh_from_once, held_cases, none_held, once_from_fresh, one_cases, unless, once_short}
 use Rattle.changes.specs.OnBoard.{AreOut, TakesOut, goes, goes_of}
-
--- a list of meetings below m, each once, has m at most
-pub once_short : (is : List ℕ) (m : ℕ) → Once is → ((i : ℕ) → holds is i ≡ true → i < m) → length is ≤ m
-once_short is m once below =
-    let members = count_members (λ i. true) is m once below in
-    let all = count_by_all is in
-    let few = total_at_most (λ i. one_if (holds is i && true)) 1 m (λ i h. one (holds is i && true)) in
-    omega arith
-  where
-    one : (b : Bool) → one_if b ≤ 1
-    one true = omega arith
-    one false = omega arith
-
-    count_by_all : (is : List ℕ) → count_by (λ i. true) is ≡ length is
-    count_by_all [] = refl
-    count_by_all (i ∷ is) = let more = sum_by-cons (λ i. one_if true) i is in let ih = count_by_all is in omega arith
 
 -- nobody passes
 pub takes_none : (d : Board) (is : List ℕ) (p : ℕ → Bool) → AreOut d is → ((i : ℕ) → p i ≡ false) → TakesOut d d is is p
