@@ -1,4 +1,5 @@
 pub mod Days
+pub mod Keeping
 pub mod Kinds
 pub mod Making
 pub mod Numbered

@@ -1,5 +1,5 @@
 -- What is done on a board while a change is made. Assumes nothing.
-use Rattle.std.specs.Prelude.{◌≡◌, ℕ, ◌<◌, Bool, true, cond, ◌&&◌, ◌||◌, List, length, ◌==◌, nat_le, nat_lt}
+use Rattle.std.specs.Prelude.{◌≡◌, ℕ, ◌-◌, ◌<◌, ◌≤◌, Bool, true, cond, ◌&&◌, ◌||◌, List, length, ◌==◌, nat_le, nat_lt}
 use Rattle.meetings.specs.declared.numbers.Side.TheVariants.{Groups}
 use Rattle.fewest.specs.Plans.{none}
 use Rattle.chains.specs.declared.board.Board.{Board}
@@ -8,6 +8,8 @@ use Rattle.chains.specs.Chains.{holds}
 use Rattle.chains.specs.Partial.{party_of, round_of}
 use Rattle.chains.specs.Rows.{ManyWithin}
 use Rattle.chains.specs.Statements.{Once}
+use Rattle.changes.specs.declared.change.Change.{Change}
+use Rattle.changes.specs.declared.change.Change.TheVariants.{Add, Drop, GetRoom, GiveRoomUp}
 use Rattle.changes.specs.Numbered.{Numbered}
 use Rattle.changes.specs.Waiting.{Spared, WhilePutting}
 
@@ -43,3 +45,25 @@ pub record CanPut (d : Board) (r : ℕ) (is : List ℕ) : Type 0 where
   pub within : ManyWithin d.shape r
   pub spared : Spared r v
   pub waiting : WhilePutting r v is (rounds_on d)
+
+-- the meeting that a change adds, which is the last of m
+abbrev pub newcomer : ℕ → Change → List ℕ
+newcomer m (Add x) = (m - 1) ∷ []
+newcomer m (Drop i) = []
+newcomer m GiveRoomUp = []
+newcomer m GetRoom = []
+
+-- the rounds without that of a dropped meeting
+abbrev pub dropped : List ℕ → Change → List ℕ
+dropped xs (Add m) = xs
+dropped xs (Drop i) = slice_set xs i.0 none
+dropped xs GiveRoomUp = xs
+dropped xs GetRoom = xs
+
+-- on the board d a change can be noted, where there were r rounds: an added meeting is the last, and has no round yet; one that is
+-- dropped has one
+abbrev pub CanNote : Board → ℕ → Change → Type 0
+CanNote d r (Add m) = (1 ≤ length (meetings_on d)) × (round_of (rounds_on d) (length (meetings_on d) - 1) ≡ none)
+CanNote d r (Drop i) = (i.0 < length (meetings_on d)) × (round_of (rounds_on d) i.0 < r)
+CanNote d r GiveRoomUp = ⊤
+CanNote d r GetRoom = ⊤

@@ -4,9 +4,12 @@
 
 mod change;
 mod changed;
+mod kept;
+mod making;
 mod moving;
 mod putting;
 mod register;
+mod rows;
 mod sizes;
 mod taking;
 mod tested;
@@ -14,3 +17,4 @@ mod testing;
 
 pub use change::Change;
 pub use changed::Changed;
+pub use rows::change_day;

@@ -1,0 +1,82 @@
+// Making one change on a board.
+ghost use Rattle.std.specs.Prelude.{◌≡◌, ◌≤◌, length, vec_capacity};
+ghost use Rattle.fewest.specs.Plans.{none};
+ghost use Rattle.chains.specs.Boards.{Becomes, meetings_on, rounds_on};
+ghost use Rattle.balance.specs.Sizes.{sizes_of};
+ghost use Rattle.changes.specs.OnBoard.{CanNote, dropped, newcomer};
+
+use crate::change::Change;
+use crate::changed::Changed;
+use crate::kept::Kept;
+use crate::moving::count_moved;
+use crate::putting::put_in_each;
+use crate::sizes::leave_round;
+use crate::taking::take_out;
+use balance::even_out;
+use chains::{Board, NONE};
+use meetings::MeetingId;
+
+// A dropped meeting leaves its round.
+fn drop_meeting(board: &mut Board<'_>, meeting: MeetingId, sizes: &mut [u16], before: &mut [u16])
+{
+    leave_round(board, meeting, sizes);
+    before[meeting.0 as usize] = NONE;
+}
+
+// Notes a change: a meeting that is added waits, and one that is dropped leaves its round.
+fn note(
+    board: &mut Board<'_>,
+    change: Change,
+    sizes: &mut [u16],
+    before: &mut [u16],
+    waiting: &mut Vec<u16>,
+)
+    requires can { CanNote board.old (length sizes.old) change }
+    requires few { length sizes.old ≤ none }
+    requires counted { sizes.old ≡ sizes_of (length sizes.old) (rounds_on board.old) }
+    requires long { length (meetings_on board.old) ≤ length before.old }
+    requires room { length (meetings_on board.old) ≤ vec_capacity waiting.old }
+    ensures board { Becomes board.old board.new (dropped (rounds_on board.old) change) }
+    ensures counted { sizes.new ≡ sizes_of (length sizes.old) (dropped (rounds_on board.old) change) }
+    ensures before { before.new ≡ dropped before.old change }
+    ensures waiting { waiting.new.items ≡ newcomer (length (meetings_on board.old)) change }
+    ensures room { vec_capacity waiting.new ≡ vec_capacity waiting.old }
+{
+    waiting.clear();
+    match change {
+        // `as`, since it is proved to fit
+        Change::Add(_) => waiting.push_reserved((board.meetings.len() - 1) as u16),
+        Change::Drop(meeting) => drop_meeting(board, meeting, sizes, before),
+        Change::GiveRoomUp | Change::GetRoom => {}
+    }
+}
+
+// Takes the meetings out of the rounds that are no more. Those that wait then are in the order of their numbers.
+fn take_out_rest(board: &mut Board<'_>, from: u16, to: u16, sizes: &mut [u16], waiting: &mut Vec<u16>) {
+    if to < from {
+        take_out(board, to, from, waiting);
+        sizes[usize::from(to)..usize::from(from)].fill(0);
+    }
+    waiting.sort_unstable();
+}
+
+// Makes a change on a board of so many rounds, which has so many then. The meetings on the board are those after the change.
+pub(crate) fn make(board: &mut Board<'_>, change: Change, from: u16, to: u16, kept: &mut Kept) -> Changed {
+    note(board, change, &mut kept.sizes, &mut kept.before, &mut kept.waiting);
+    take_out_rest(board, from, to, &mut kept.sizes, &mut kept.waiting);
+    let put = put_in_each(board, to, &kept.waiting, &mut kept.sizes, &mut kept.found, &mut kept.touched);
+    let evened = even_out(
+        board,
+        &mut kept.sizes[0..usize::from(to)],
+        &mut kept.ordered,
+        &mut kept.found,
+        &mut kept.touched,
+    );
+    let moved = count_moved(board.rounds, &mut kept.before, kept.touched.list());
+    kept.touched.clear();
+    Changed {
+        rounds: to,
+        looks: put + evened,
+        moved,
+    }
+}
