@@ -1,5 +1,5 @@
 -- What is done on a board while a change is made. Assumes nothing.
-use Rattle.std.specs.Prelude.{◌≡◌, ℕ, ◌-◌, ◌<◌, ◌≤◌, Bool, true, cond, ◌&&◌, ◌||◌, List, length, ◌==◌, nat_le, nat_lt}
+use Rattle.std.specs.Prelude.{◌≡◌, ℕ, ◌-◌, ◌<◌, ◌≤◌, Bool, true, cond, ◌&&◌, ◌||◌, List, [], ◌∷◌, length, ◌==◌, nat_le, nat_lt, slice_set, ⊤}
 use Rattle.meetings.specs.declared.numbers.Side.TheVariants.{Groups}
 use Rattle.fewest.specs.Plans.{none}
 use Rattle.chains.specs.declared.board.Board.{Board}
@@ -8,6 +8,7 @@ use Rattle.chains.specs.Chains.{holds}
 use Rattle.chains.specs.Partial.{party_of, round_of}
 use Rattle.chains.specs.Rows.{ManyWithin}
 use Rattle.chains.specs.Statements.{Once}
+use Rattle.balance.specs.Sizes.{sizes_of}
 use Rattle.changes.specs.declared.change.Change.{Change}
 use Rattle.changes.specs.declared.change.Change.TheVariants.{Add, Drop, GetRoom, GiveRoomUp}
 use Rattle.changes.specs.Numbered.{Numbered}
@@ -67,3 +68,11 @@ CanNote d r (Add m) = (1 ≤ length (meetings_on d)) × (round_of (rounds_on d) 
 CanNote d r (Drop i) = (i.0 < length (meetings_on d)) × (round_of (rounds_on d) i.0 < r)
 CanNote d r GiveRoomUp = ⊤
 CanNote d r GetRoom = ⊤
+
+-- a change is noted on the board d, which becomes e: the sizes are those of its rounds, a dropped meeting has no round from before,
+-- and an added one waits
+pub record Notes (d e : Board) (c : Change) (ns ns' bs bs' is : List ℕ) : Type 0 where
+  pub board : Becomes d e (dropped (rounds_on d) c)
+  pub sizes : ns' ≡ sizes_of (length ns) (dropped (rounds_on d) c)
+  pub before : bs' ≡ dropped bs c
+  pub waiting : is ≡ newcomer (length (meetings_on d)) c

@@ -1,9 +1,10 @@
 // Making one change on a board.
-ghost use Rattle.std.specs.Prelude.{◌≡◌, ◌≤◌, length, vec_capacity};
+ghost use Rattle.std.specs.Prelude.{◌≡◌, ◌<◌, ◌≤◌, length, slice_set, vec_capacity};
 ghost use Rattle.fewest.specs.Plans.{none};
 ghost use Rattle.chains.specs.Boards.{Becomes, meetings_on, rounds_on};
+ghost use Rattle.chains.specs.Partial.{round_of};
 ghost use Rattle.balance.specs.Sizes.{sizes_of};
-ghost use Rattle.changes.specs.OnBoard.{CanNote, dropped, newcomer};
+ghost use Rattle.changes.specs.OnBoard.{CanNote, Notes};
 
 use crate::change::Change;
 use crate::changed::Changed;
@@ -16,8 +17,16 @@ use balance::even_out;
 use chains::{Board, NONE};
 use meetings::MeetingId;
 
-// A dropped meeting leaves its round.
+// A dropped meeting leaves its round, and has none from before.
 fn drop_meeting(board: &mut Board<'_>, meeting: MeetingId, sizes: &mut [u16], before: &mut [u16])
+    requires here { meeting.0 < length (meetings_on board.old) }
+    requires placed { round_of (rounds_on board.old) meeting.0 < length sizes.old }
+    requires few { length sizes.old ≤ none }
+    requires counted { sizes.old ≡ sizes_of (length sizes.old) (rounds_on board.old) }
+    requires long { length (meetings_on board.old) ≤ length before.old }
+    ensures board { Becomes board.old board.new (slice_set (rounds_on board.old) meeting.0 none) }
+    ensures counted { sizes.new ≡ sizes_of (length sizes.old) (slice_set (rounds_on board.old) meeting.0 none) }
+    ensures before { before.new ≡ slice_set before.old meeting.0 none }
 {
     leave_round(board, meeting, sizes);
     before[meeting.0 as usize] = NONE;
@@ -36,10 +45,7 @@ fn note(
     requires counted { sizes.old ≡ sizes_of (length sizes.old) (rounds_on board.old) }
     requires long { length (meetings_on board.old) ≤ length before.old }
     requires room { length (meetings_on board.old) ≤ vec_capacity waiting.old }
-    ensures board { Becomes board.old board.new (dropped (rounds_on board.old) change) }
-    ensures counted { sizes.new ≡ sizes_of (length sizes.old) (dropped (rounds_on board.old) change) }
-    ensures before { before.new ≡ dropped before.old change }
-    ensures waiting { waiting.new.items ≡ newcomer (length (meetings_on board.old)) change }
+    ensures noted { Notes board.old board.new change sizes.old sizes.new before.old before.new waiting.new.items }
     ensures room { vec_capacity waiting.new ≡ vec_capacity waiting.old }
 {
     waiting.clear();
