@@ -13,6 +13,8 @@ pub mod PutAnew
 pub mod PuttingEach
 pub mod PuttingTurns
 pub mod SizesKept
+pub mod Sorting
 pub mod Standing
 pub mod TakingOut
+pub mod TakingRest
 pub mod Waiting

@@ -1,4 +1,5 @@
 -- What is done on a board while a change is made. Assumes nothing.
+use Rattle.std.specs.List.Sorted.{IsNonDecreasing}
 use Rattle.std.specs.Prelude.{◌≡◌, ℕ, ◌-◌, ◌<◌, ◌≤◌, Bool, true, cond, ◌&&◌, ◌||◌, List, [], ◌∷◌, length, ◌==◌, nat_le, nat_lt, slice_set, ⊤}
 use Rattle.meetings.specs.declared.numbers.Side.TheVariants.{Groups}
 use Rattle.fewest.specs.Plans.{none}
@@ -11,6 +12,7 @@ use Rattle.chains.specs.Statements.{Once}
 use Rattle.balance.specs.Sizes.{sizes_of}
 use Rattle.changes.specs.declared.change.Change.{Change}
 use Rattle.changes.specs.declared.change.Change.TheVariants.{Add, Drop, GetRoom, GiveRoomUp}
+use Rattle.changes.specs.Making.{taken_out}
 use Rattle.changes.specs.Numbered.{Numbered}
 use Rattle.changes.specs.Waiting.{Spared, WhilePutting}
 
@@ -76,3 +78,12 @@ pub record Notes (d e : Board) (c : Change) (ns ns' bs bs' is : List ℕ) : Type
   pub sizes : ns' ≡ sizes_of (length ns) (dropped (rounds_on d) c)
   pub before : bs' ≡ dropped bs c
   pub waiting : is ≡ newcomer (length (meetings_on d)) c
+
+-- the board d becomes e: where there were rounds up to from, those from to on are no more, and whoever is in one waits, beside those
+-- that wait already; the sizes are those of the rounds then
+pub record TakesRest (d e : Board) (from to : ℕ) (ns ns' is js : List ℕ) : Type 0 where
+  pub board : Becomes d e (taken_out to (rounds_on d))
+  pub sizes : ns' ≡ sizes_of (length ns) (taken_out to (rounds_on d))
+  pub held : (i : ℕ) → holds js i ≡ (holds is i || goes d to from i)
+  pub once : Once js
+  pub rising : IsNonDecreasing js

@@ -1,17 +1,19 @@
 // Making one change on a board.
 ghost use Rattle.std.specs.Prelude.{◌≡◌, ◌<◌, ◌≤◌, length, slice_set, vec_capacity};
+ghost use Rattle.meetings.specs.declared.numbers.Side.TheVariants.{Groups};
 ghost use Rattle.fewest.specs.Plans.{none};
 ghost use Rattle.chains.specs.Boards.{Becomes, meetings_on, rounds_on};
-ghost use Rattle.chains.specs.Partial.{round_of};
+ghost use Rattle.chains.specs.Partial.{Partial, round_of};
+ghost use Rattle.chains.specs.Rows.{width_of};
 ghost use Rattle.balance.specs.Sizes.{sizes_of};
-ghost use Rattle.changes.specs.OnBoard.{CanNote, Notes};
+ghost use Rattle.changes.specs.OnBoard.{AreOut, CanNote, Notes, TakesRest};
 
 use crate::change::Change;
 use crate::changed::Changed;
 use crate::kept::Kept;
 use crate::moving::count_moved;
 use crate::putting::put_in_each;
-use crate::sizes::leave_round;
+use crate::sizes::{clear_from, leave_round};
 use crate::taking::take_out;
 use balance::even_out;
 use chains::{Board, NONE};
@@ -57,11 +59,28 @@ fn note(
     }
 }
 
-// Takes the meetings out of the rounds that are no more. Those that wait then are in the order of their numbers.
-fn take_out_rest(board: &mut Board<'_>, from: u16, to: u16, sizes: &mut [u16], waiting: &mut Vec<u16>) {
+// Takes the meetings out of the rounds that are no more, where there were more of them: these wait, too. Those that wait are then in
+// the order of their numbers.
+fn take_out_rest(
+    board: &mut Board<'_>,
+    from: u16,
+    to: u16,
+    sizes: &mut [u16],
+    waiting: &mut Vec<u16>,
+)
+    requires plan { Partial from (meetings_on board.old) (rounds_on board.old) }
+    requires within { from ≤ width_of Groups board.old.shape }
+    requires rounds { from ≤ length sizes.old }
+    requires few { length sizes.old ≤ none }
+    requires counted { sizes.old ≡ sizes_of (length sizes.old) (rounds_on board.old) }
+    requires out { AreOut board.old waiting.old.items }
+    requires room { length (meetings_on board.old) ≤ vec_capacity waiting.old }
+    ensures taken { TakesRest board.old board.new from to sizes.old sizes.new waiting.old.items waiting.new.items }
+    ensures room { vec_capacity waiting.new ≡ vec_capacity waiting.old }
+{
     if to < from {
         take_out(board, to, from, waiting);
-        sizes[usize::from(to)..usize::from(from)].fill(0);
+        clear_from(sizes, to, from);
     }
     waiting.sort_unstable();
 }
