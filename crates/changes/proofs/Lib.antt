@@ -1,9 +1,11 @@
 pub mod Again
+pub mod EveningFirst
 pub mod FirstDay
 pub mod Keeping
 pub mod Leading
 pub mod Left
 pub mod LeftChanged
+pub mod MakingAgain
 pub mod MovingTurns
 pub mod Named
 pub mod Noted

@@ -6,6 +6,7 @@ mod change;
 mod changed;
 mod kept;
 mod making;
+mod making_again;
 mod moving;
 mod putting;
 mod register;
