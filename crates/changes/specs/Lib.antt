@@ -2,6 +2,7 @@ pub mod Days
 pub mod Keeping
 pub mod Kinds
 pub mod Making
+pub mod MakingOn
 pub mod Numbered
 pub mod OnBoard
 pub mod Registered
