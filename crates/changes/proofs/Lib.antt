@@ -1,4 +1,6 @@
 pub mod Again
+pub mod BeforeMaking
+pub mod CanMake
 pub mod EveningFirst
 pub mod FirstDay
 pub mod Keeping
@@ -8,6 +10,7 @@ pub mod LeftChanged
 pub mod MakingAgain
 pub mod MovingTurns
 pub mod Named
+pub mod NextDay
 pub mod Noted
 pub mod OneChange
 pub mod ProperAfter

@@ -15,7 +15,9 @@ mod sizes;
 mod taking;
 mod tested;
 mod testing;
+mod theorems;
 
 pub use change::Change;
 pub use changed::Changed;
 pub use rows::change_day;
+pub use theorems::{change_leaves_a_day_that_stands, every_row_leaves_days_that_stand};
