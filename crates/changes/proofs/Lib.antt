@@ -1,3 +1,4 @@
+pub mod AfterMaking
 pub mod Again
 pub mod BeforeMaking
 pub mod CanMake
