@@ -52,7 +52,7 @@ noted_partial q d xs c few plan =
     same x round = grind (arith, nat_tests)
 
 -- the meeting that is dropped is there
-drop_there : (d : Day) (i : ℕ) → get_or (map has_round d.at) i false ≡ true → (i < length d.at) × (has_round (round_of d.at i) ≡ true)
+pub drop_there : (d : Day) (i : ℕ) → get_or (map has_round d.at) i false ≡ true → (i < length d.at) × (has_round (round_of d.at i) ≡ true)
 drop_there d i there = ⊎_elim
     (λ h. (h, sym (get_or-map has_round d.at i none false h) ∙ there))
     (λ past. absurd (both_ways _ (get_or_past (map has_round d.at) i false (omega (arith, length-map d.at has_round))) there))

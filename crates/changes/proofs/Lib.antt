@@ -14,6 +14,7 @@ pub mod Named
 pub mod NextDay
 pub mod Noted
 pub mod OneChange
+pub mod OneMade
 pub mod ProperAfter
 pub mod PutAnew
 pub mod PuttingEach

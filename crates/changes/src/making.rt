@@ -1,21 +1,23 @@
 // Making one change on a board.
-ghost use Rattle.std.specs.Prelude.{◌≡◌, ◌<◌, ◌≤◌, length, slice_set, vec_capacity};
+ghost use Rattle.std.specs.Prelude.{◌≡◌, ◌<◌, ◌≤◌, ◌*◌, length, slice_set, vec_capacity};
 ghost use Rattle.meetings.specs.declared.numbers.Side.TheVariants.{Groups};
 ghost use Rattle.fewest.specs.Plans.{none};
 ghost use Rattle.chains.specs.Boards.{Becomes, meetings_on, rounds_on};
 ghost use Rattle.chains.specs.Partial.{Partial, round_of};
 ghost use Rattle.chains.specs.Rows.{width_of};
 ghost use Rattle.balance.specs.Sizes.{sizes_of};
+ghost use Rattle.changes.specs.Days.{Day};
+ghost use Rattle.changes.specs.Keeping.{Beside};
+ghost use Rattle.changes.specs.MakingOn.{AfterChange, BeforeChange};
 ghost use Rattle.changes.specs.OnBoard.{AreOut, CanNote, Notes, TakesRest};
 
 use crate::change::Change;
 use crate::changed::Changed;
 use crate::kept::Kept;
-use crate::moving::count_moved;
-use crate::putting::put_in_each;
+use crate::making_again::make_again;
+use crate::moving::moved_on;
 use crate::sizes::{clear_from, leave_round};
 use crate::taking::take_out;
-use balance::even_out;
 use chains::{Board, NONE};
 use meetings::MeetingId;
 
@@ -85,23 +87,44 @@ fn take_out_rest(
     waiting.sort_unstable();
 }
 
-// Makes a change on a board of so many rounds, which has so many then. The meetings on the board are those after the change.
-pub(crate) fn make(board: &mut Board<'_>, change: Change, from: u16, to: u16, kept: &mut Kept) -> Changed {
-    note(board, change, &mut kept.sizes, &mut kept.before, &mut kept.waiting);
-    take_out_rest(board, from, to, &mut kept.sizes, &mut kept.waiting);
-    let put = put_in_each(board, to, &kept.waiting, &mut kept.sizes, &mut kept.found, &mut kept.touched);
-    let evened = even_out(
+// Makes a change on a board that has so many rounds before it, and so many after it. The meetings on the board are those that have a
+// number after the change.
+pub(crate) fn make(
+    board: &mut Board<'_>,
+    change: Change,
+    from: u16,
+    to: u16,
+    kept: &mut Kept,
+) -> Changed
+    requires before { (d : Day) × BeforeChange d change board.old from to }
+    requires beside { Beside board.old kept.old (length kept.old.before.items) (length kept.old.sizes.items) }
+    requires long { length (meetings_on board.old) ≤ length kept.old.before.items }
+    requires from { from ≤ length kept.old.sizes.items }
+    requires to { to ≤ length kept.old.sizes.items }
+    requires few { length kept.old.sizes.items ≤ none }
+    ensures made { (d : Day) → BeforeChange d change board.old from to → AfterChange d change board.old board.new result }
+    ensures beside { Beside board.new kept.new (length kept.old.before.items) (length kept.old.sizes.items) }
+{
+    note(
         board,
-        &mut kept.sizes[0..usize::from(to)],
+        change,
+        &mut kept.sizes,
+        &mut kept.before,
+        &mut kept.waiting,
+    );
+    take_out_rest(board, from, to, &mut kept.sizes, &mut kept.waiting);
+    let looks = make_again(
+        board,
+        to,
+        &kept.waiting,
+        &mut kept.sizes,
         &mut kept.ordered,
         &mut kept.found,
         &mut kept.touched,
     );
-    let moved = count_moved(board.rounds, &mut kept.before, kept.touched.list());
-    kept.touched.clear();
     Changed {
         rounds: to,
-        looks: put + evened,
-        moved,
+        looks,
+        moved: moved_on(board, &mut kept.before, &mut kept.touched),
     }
 }
