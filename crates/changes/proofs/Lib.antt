@@ -2,4 +2,5 @@ pub mod FirstDay
 pub mod Keeping
 pub mod Left
 pub mod LeftChanged
+pub mod ReadTurns
 pub mod Standing

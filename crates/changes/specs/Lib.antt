@@ -1,3 +1,4 @@
+pub mod Bytes
 pub mod Days
 pub mod Kinds
 pub mod Making

@@ -3,6 +3,7 @@
 #![tactic(auto)]
 
 mod change;
+mod reading;
 mod register;
 mod tested;
 mod testing;

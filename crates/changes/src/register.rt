@@ -18,8 +18,8 @@ const MOST_MEETINGS: usize = 4000;
 
 #[derive(Drop)]
 pub(crate) struct Register {
-    groups: u16,
-    stations: u16,
+    pub(crate) groups: u16,
+    pub(crate) stations: u16,
     rooms: u16,
     meetings: Vec<Meeting>,
     there: Vec<bool>,
