@@ -9,11 +9,11 @@ use Rattle.changes.specs.Numbered.{Numbered, changed}
 
 module _ (v : Numbered) (bs : List ℕ) (at : ℕ) (came : List Change) where
   -- at the end of the bytes, however many changes might come
-  past_end : (left : ℕ) → length bs ≤ at → changes_at v bs left at came ≡ accepted came
+  pub past_end : (left : ℕ) → length bs ≤ at → changes_at v bs left at came ≡ accepted came
   past_end zero h = refl
   past_end (suc left) h = rw (le-leb (length bs) at h) refl
 
-  one_less : (left rest : ℕ) → left ≡ suc rest → at < length bs → changes_at v bs left at came ≡ then (next_at v bs at (length came)) (λ c. changes_at (changed v c) bs rest (at + width_of c) (came ++ c ∷ []))
+  pub one_less : (left rest : ℕ) → left ≡ suc rest → at < length bs → changes_at v bs left at came ≡ then (next_at v bs at (length came)) (λ c. changes_at (changed v c) bs rest (at + width_of c) (came ++ c ∷ []))
   one_less left rest e h = ap (λ x. changes_at v bs x at came) e ∙ (rw (lt-leb (length bs) at h) refl)
 
   module _ {whole : Outcome (List Change)} (inv : changes_at v bs (length bs - length came) at came ≡ whole) where

@@ -4,5 +4,6 @@ pub mod Kinds
 pub mod Making
 pub mod Numbered
 pub mod Registered
+pub mod Rows
 pub mod Statements
 pub mod Tested

@@ -9,3 +9,4 @@ mod tested;
 mod testing;
 
 pub use change::Change;
+pub use reading::read_changes;

@@ -1,10 +1,11 @@
 // Reading a row of changes from its bytes.
-ghost use Rattle.std.specs.Prelude.{◌≡◌, ◌+◌, ◌<◌, ◌≤◌, ◌^◌, true, length, IfOk, vec_items};
+ghost use Rattle.std.specs.Prelude.{◌≡◌, ◌+◌, ◌<◌, ◌≤◌, ◌^◌, true, [], length, IfOk, vec_items};
 ghost use Rattle.meetings.specs.Held.{contents};
-ghost use Rattle.meetings.specs.Refusals.{Answers, outcome};
-ghost use Rattle.changes.specs.Bytes.{change_at, id_at, next_at, read_row, width_of};
-ghost use Rattle.changes.specs.Numbered.{can, whole};
+ghost use Rattle.meetings.specs.Refusals.{Answers, accepted, outcome};
+ghost use Rattle.changes.specs.Bytes.{bytes_of_changes, change_at, id_at, next_at, read_row, width_of};
+ghost use Rattle.changes.specs.Numbered.{can, tested, whole};
 ghost use Rattle.changes.specs.Registered.{registered};
+ghost use Rattle.changes.specs.Rows.{made_all, rounds_after};
 
 use crate::change::Change;
 use crate::register::Register;
@@ -66,16 +67,9 @@ fn next(register: &Register, bytes: &[u8], at: usize, z: usize) -> Result<Change
     Ok(change)
 }
 
-// The row of changes that the bytes say, each of which can be made when its turn comes, or what is wrong with them first.
-#[tactic(
-    auto,
-    using(
-        crate::proofs::ReadTurns::read_end,
-        crate::proofs::ReadTurns::read_one,
-        crate::proofs::ReadTurns::read_refused
-    )
-)]
-pub fn read_changes(heap: Global, list: &MeetingList, bytes: &[u8]) -> Result<Vec<Change>, Refusal>
+// The row that the bytes say, or what is wrong with them first.
+#[tactic(auto, using(crate::proofs::ReadTurns::read_end))]
+fn row(heap: Global, list: &MeetingList, bytes: &[u8]) -> Result<Vec<Change>, Refusal>
     ensures { Answers vec_items result (read_row (whole (contents list.now)) bytes.now) }
 {
     let mut register = Register::of(heap, list)?;
@@ -88,4 +82,13 @@ pub fn read_changes(heap: Global, list: &MeetingList, bytes: &[u8]) -> Result<Ve
         at += width(change);
     }
     Ok(read)
+}
+
+// The row of changes that the bytes say, each of which can be made when its turn comes, or what is wrong with them first.
+pub fn read_changes(heap: Global, list: &MeetingList, bytes: &[u8]) -> Result<Vec<Change>, Refusal>
+    ensures answer { Answers vec_items result (read_row (whole (contents list.now)) bytes.now) }
+    ensures back { IfOk result (λ cs. bytes_of_changes cs.items ≡ bytes.now) }
+    ensures made { IfOk result (λ cs. tested (whole (contents list.now)) cs.items 0 [] ≡ accepted (made_all (whole (contents list.now)) cs.items, rounds_after (whole (contents list.now)) cs.items)) }
+{
+    row(heap, list, bytes)
 }

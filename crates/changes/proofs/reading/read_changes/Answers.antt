@@ -1,18 +1,13 @@
--- The rule refuses the whole for the change that is refused; and what is left after one change gives the whole.
-use Rattle.std.proofs.Common.{length, rules, vec_items, ◌≡◌}
-use Rattle.changes.specs.Registered.{registered}
-use Rattle.changes.proofs.ReadTurns.{read_one, read_refused}
+-- What is accepted is written as it stood, and can be made.
+use Rattle.meetings.specs.Held.{contents}
+use Rattle.changes.specs.Numbered.{whole}
+use Rattle.changes.proofs.RowAccepted.{read_back, read_made}
 use Rattle.changes.proofs.reading.read_changes.Goals as goal
 
-pub returns-in_err-change : goal.returns-in_err-change
-returns-in_err-change c =
-    let long : c.len.result ≡ length (vec_items c.loop-at.read) = search rules in
-    let whole = read_refused (registered c.loop-at.register) c.args.bytes.now c.loop-at.at (vec_items c.loop-at.read) c.loop-at.invariant.2 (search rules) c.loop-at.invariant.1 c.len.result long c.in_err-change.ensures.is in
-    search rules
+pub returns-clause-back : goal.returns-clause-back
+returns-clause-back c =
+    read_back (whole (contents c.args.list.now)) c.args.bytes.now (λ i. (c.type_inv.bytes i).fits) c.row.result c.row.ensures
 
-pub loop-at-preserved : goal.loop-at-preserved
-loop-at-preserved c =
-    let long : c.len.result ≡ length (vec_items c.loop-at.read) = search rules in (
-    search rules,
-    search rules,
-    read_one (registered c.loop-at.register) c.args.bytes.now c.loop-at.at (vec_items c.loop-at.read) c.loop-at.invariant.2 (search rules) c.loop-at.invariant.1 c.len.result long c.in_ok-change.change _ _ _ c.in_ok-change.ensures.is (search rules) (search rules) (search rules))
+pub returns-clause-made : goal.returns-clause-made
+returns-clause-made c =
+    read_made (whole (contents c.args.list.now)) c.args.bytes.now (λ i. (c.type_inv.bytes i).fits) c.row.result c.row.ensures

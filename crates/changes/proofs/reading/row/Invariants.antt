@@ -3,7 +3,7 @@ use Rattle.meetings.specs.Held.{contents}
 use Rattle.changes.specs.Bytes.{changes_at, read_row}
 use Rattle.changes.specs.Numbered.{whole}
 use Rattle.changes.specs.Registered.{Kept, registered}
-use Rattle.changes.proofs.reading.read_changes.Given as goal
+use Rattle.changes.proofs.reading.row.Given as goal
 
 -- what is left gives the whole, and each change that came had a byte at least
 abbrev pub invariant-loop-at : goal.invariant-loop-at

@@ -1,0 +1,39 @@
+-- Rows of changes that can be made: what they come to, and that their bytes are read as they were written. Definitions and
+-- statements; assumes nothing.
+use Rattle.std.specs.Prelude.{◌≡◌, ℕ, true, List, [], ◌∷◌, ◌++◌}
+use Rattle.meetings.specs.Refusals.{accepted}
+use Rattle.meetings.specs.RoundTrips.{AllBytes}
+use Rattle.changes.specs.declared.change.Change.{Change}
+use Rattle.changes.specs.Bytes.{bytes_of_changes, read_row}
+use Rattle.changes.specs.Numbered.{Numbered, can, changed, rounds_for, tested}
+
+-- each change can be made when its turn comes
+abbrev pub CanAll : Numbered → List Change → Type 0
+CanAll v [] = Unit {0}
+CanAll v (c ∷ cs) = (can v c ≡ true) × CanAll (changed v c) cs
+
+-- the meetings in the end
+abbrev pub made_all : Numbered → List Change → Numbered
+made_all v [] = v
+made_all v (c ∷ cs) = made_all (changed v c) cs
+
+-- the number of rounds after each
+abbrev pub rounds_after : Numbered → List Change → List ℕ
+rounds_after v [] = []
+rounds_after v (c ∷ cs) = rounds_for (changed v c) ∷ rounds_after (changed v c) cs
+
+-- what can be made is tested as that
+abbrev pub TestedAsMade : Type 0
+TestedAsMade =
+    (v : Numbered) (cs : List Change) (i : ℕ) (rs : List ℕ) → CanAll v cs →
+    tested v cs i rs ≡ accepted (made_all v cs, rs ++ rounds_after v cs)
+
+-- what is accepted can be made, and is written as it stood
+abbrev pub ReadThenWritten : Type 0
+ReadThenWritten =
+    (v : Numbered) (bs : List ℕ) (cs : List Change) → AllBytes bs → read_row v bs ≡ accepted cs →
+    CanAll v cs × (bytes_of_changes cs ≡ bs)
+
+-- what can be made is accepted as it was written
+abbrev pub WrittenThenRead : Type 0
+WrittenThenRead = (v : Numbered) (cs : List Change) → CanAll v cs → read_row v (bytes_of_changes cs) ≡ accepted cs
