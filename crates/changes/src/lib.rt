@@ -7,6 +7,8 @@ mod reading;
 mod register;
 mod tested;
 mod testing;
+mod writing;
 
 pub use change::Change;
 pub use reading::read_changes;
+pub use writing::write_changes;
