@@ -23,10 +23,10 @@ tested_as_made v (c ∷ cs) i rs h =
     let rest = tested_as_made (changed v c) cs (i + 1) (rs ++ rounds_for (changed v c) ∷ []) h.1 in
     rw h.0 (rest ∙ ap (λ l. accepted (made_all (changed v c) cs, l)) (append_assoc rs (rounds_for (changed v c) ∷ []) (rounds_after (changed v c) cs)))
 
-never : {T : Type 0} {x : T} {a b : ℕ} → refused a b ≡ accepted x → ⊥
+pub never : {T : Type 0} {x : T} {a b : ℕ} → refused a b ≡ accepted x → ⊥
 never e = let z : ◌≡◌ {A = ℕ} 0 1 = cc e in omega arith
 
-same : {T : Type 0} (x y : T) → accepted x ≡ accepted y → x ≡ y
+pub same : {T : Type 0} (x y : T) → accepted x ≡ accepted y → x ≡ y
 same x y e = cc
 
 three_bytes : (bs : List ℕ) (at : ℕ) → at + 2 < length bs → drop at bs ≡ get_or bs at 0 ∷ get_or bs (at + 1) 0 ∷ get_or bs (at + 2) 0 ∷ drop (at + 3) bs

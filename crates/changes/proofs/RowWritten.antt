@@ -1,19 +1,24 @@
 -- What can be made is accepted as it was written: each change is read from its bytes, and then those of the next. Assumes nothing.
-use Rattle.std.proofs.Common.{◌≡◌, ℕ, zero, suc, ◌+◌, ◌*◌, ◌/◌, ◌%◌, ◌<◌, ◌≤◌, true, List, [], ◌∷◌, ◌++◌, length, get_or, drop, sym, refl, ap, ◌∙◌, append_assoc, append-nil, arith}
+use Rattle.std.proofs.Common.{Global, Ok, Err, Result, Vec, vec_items, ⊎_elim, ◌≡◌, ℕ, zero, suc, ◌+◌, ◌*◌, ◌/◌, ◌%◌, ◌<◌, ◌≤◌, true, List, [], ◌∷◌, ◌++◌, length, get_or, drop, sym, refl, ap, ◌∙◌, append_assoc, append-nil, arith}
 use Rattle.std.proofs.lemmas.List.{drop_at, drop-drop, get_or-drop, length-append, length-drop}
-use Rattle.std.proofs.lemmas.Bool.{lt-leb}
+use Rattle.std.proofs.lemmas.Bool.{and_from, lt-leb, lt-ltb}
 use Rattle.meetings.specs.declared.numbers.Meeting.{Meeting}
 use Rattle.meetings.specs.declared.numbers.Side.TheVariants.{Groups, Stations}
+use Rattle.meetings.specs.declared.refusal.Refusal.{Refusal}
+use Rattle.meetings.specs.declared.refusal.Refusal.TheVariants.{Memory}
 use Rattle.meetings.specs.Bytes.{meeting_at}
-use Rattle.meetings.specs.Refusals.{accepted}
+use Rattle.meetings.specs.Lists.{Proper}
+use Rattle.meetings.specs.Refusals.{Answers, IfMemory, accepted}
+use Rattle.meetings.proofs.Outcomes.{accepted_from_ok}
 use Rattle.meetings.proofs.Written.{party_written}
 use Rattle.changes.specs.declared.change.Change.{Change}
 use Rattle.changes.specs.declared.change.Change.TheVariants.{Add, Drop, GetRoom, GiveRoomUp}
-use Rattle.changes.specs.Bytes.{bytes_of_change, bytes_of_changes, change_at, changes_at, next_at, width_of}
+use Rattle.changes.specs.Bytes.{bytes_of_change, bytes_of_changes, change_at, changes_at, has_bytes, next_at, read_row, width_of, written_from, written_row}
 use Rattle.changes.specs.Numbered.{Numbered, can, changed}
-use Rattle.changes.specs.Rows.{CanAll, WrittenThenRead}
+use Rattle.changes.specs.Rows.{CanAll, SaysRow, WrittenAsBytes, WrittenThenRead}
 use Rattle.changes.proofs.LeftChanged.{can_add}
 use Rattle.changes.proofs.ReadTurns.{one_less, past_end}
+use Rattle.changes.proofs.RowAccepted.{never, same}
 
 -- what stands at a place, and behind it
 module _ (bs : List ℕ) (at : ℕ) where
@@ -95,3 +100,41 @@ changes_written (c ∷ rest) v bs (suc left) at came here enough e may =
 pub written_then_read : WrittenThenRead
 written_then_read v cs may =
     changes_written cs v (bytes_of_changes cs) (length (bytes_of_changes cs)) 0 [] (omega arith) (no_fewer_bytes cs) refl may
+
+-- where there are at most 256 groups and stations, what can be made has bytes
+can_write : (v : Numbered) (c : Change) → v.list.groups ≤ 256 → v.list.stations ≤ 256 → can v c ≡ true → has_bytes c ≡ true
+can_write v (Add m) groups stations may =
+    let exist = (can_add v m may).exist in
+    and_from _ _ (lt-ltb m.group.0 256 (omega (arith, exist Groups))) (lt-ltb m.station.0 256 (omega (arith, exist Stations)))
+can_write v (Drop i) groups stations may = refl
+can_write v GiveRoomUp groups stations may = refl
+can_write v GetRoom groups stations may = refl
+
+-- a change leaves the groups and the stations
+same_parties : (v : Numbered) (c : Change) → ((changed v c).list.groups ≡ v.list.groups) × ((changed v c).list.stations ≡ v.list.stations)
+same_parties v (Add m) = (refl, refl)
+same_parties v (Drop i) = (refl, refl)
+same_parties v GiveRoomUp = (refl, refl)
+same_parties v GetRoom = (refl, refl)
+
+row_written : (v : Numbered) (cs : List Change) (i : ℕ) (came : List ℕ) → v.list.groups ≤ 256 → v.list.stations ≤ 256 → CanAll v cs → written_from i cs came ≡ accepted (came ++ bytes_of_changes cs)
+row_written v [] i came groups stations may = ap accepted (sym (append-nil came))
+row_written v (c ∷ cs) i came groups stations may =
+    let same = same_parties v c in
+    let more = row_written (changed v c) cs (i + 1) (came ++ bytes_of_change c) (omega (arith, same.0)) (omega (arith, same.1)) may.1 in
+    rw (can_write v c groups stations may.0) (more ∙ ap accepted (append_assoc came (bytes_of_change c) (bytes_of_changes cs)))
+
+pub written_as_bytes : WrittenAsBytes
+written_as_bytes v cs proper may =
+    row_written v cs 0 [] (omega (arith, proper.groups_within.1)) (omega (arith, proper.stations_within.1)) may
+
+-- of what is answered
+pub written_answered : (v : Numbered) (cs : List Change) (o : Result (Vec ℕ Global) Refusal) → Answers vec_items o (written_row cs) → Proper v.list → CanAll v cs → IfMemory o (λ bs. SaysRow v cs bs.items)
+written_answered v cs (Ok bs) answer proper may =
+    let is : bytes_of_changes cs ≡ bs.items = same _ _ (sym (written_as_bytes v cs proper may) ∙ accepted_from_ok vec_items bs answer) in
+    record { bytes = sym is; back = ap (read_row v) (sym is) ∙ written_then_read v cs may }
+written_answered v cs (Err e) answer proper may =
+    ⊎_elim (λ none. same_error e Memory none) (λ e. absurd (never (e ∙ written_as_bytes v cs proper may))) answer
+  where
+    same_error : (e f : Refusal) → ◌≡◌ {A = Result (Vec ℕ Global) Refusal} (Err e) (Err f) → e ≡ f
+    same_error e f h = cc

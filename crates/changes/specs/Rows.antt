@@ -1,10 +1,11 @@
 -- Rows of changes that can be made: what they come to, and that their bytes are read as they were written. Definitions and
 -- statements; assumes nothing.
 use Rattle.std.specs.Prelude.{◌≡◌, ℕ, true, List, [], ◌∷◌, ◌++◌}
+use Rattle.meetings.specs.Lists.{Proper}
 use Rattle.meetings.specs.Refusals.{accepted}
 use Rattle.meetings.specs.RoundTrips.{AllBytes}
 use Rattle.changes.specs.declared.change.Change.{Change}
-use Rattle.changes.specs.Bytes.{bytes_of_changes, read_row}
+use Rattle.changes.specs.Bytes.{bytes_of_changes, read_row, written_row}
 use Rattle.changes.specs.Numbered.{Numbered, can, changed, rounds_for, tested}
 
 -- each change can be made when its turn comes
@@ -37,3 +38,13 @@ ReadThenWritten =
 -- what can be made is accepted as it was written
 abbrev pub WrittenThenRead : Type 0
 WrittenThenRead = (v : Numbered) (cs : List Change) → CanAll v cs → read_row v (bytes_of_changes cs) ≡ accepted cs
+
+-- a row that can be made from a proper list is written by its bytes
+abbrev pub WrittenAsBytes : Type 0
+WrittenAsBytes =
+    (v : Numbered) (cs : List Change) → Proper v.list → CanAll v cs → written_row cs ≡ accepted (bytes_of_changes cs)
+
+-- bytes that a row is written by, and that are read as it
+pub record SaysRow (v : Numbered) (cs : List Change) (bs : List ℕ) : Type 0 where
+  pub bytes : bs ≡ bytes_of_changes cs
+  pub back : read_row v bs ≡ accepted cs

@@ -1,7 +1,10 @@
 // Writing a row of changes as bytes.
 ghost use Rattle.std.specs.Prelude.{◌≡◌, ◌++◌, true, vec_items};
+ghost use Rattle.meetings.specs.Lists.{Proper};
 ghost use Rattle.meetings.specs.Refusals.{Answers, IfMemory};
 ghost use Rattle.changes.specs.Bytes.{bytes_of_change, has_bytes, written_row};
+ghost use Rattle.changes.specs.Numbered.{Numbered};
+ghost use Rattle.changes.specs.Rows.{CanAll, SaysRow};
 
 use crate::change::Change;
 use meetings::{MeetingId, Refusal};
@@ -32,9 +35,8 @@ fn write_change(bytes: &mut Vec<u8>, change: Change) -> Result<(), Refusal>
     Ok(())
 }
 
-// The bytes that say this row. A list has fewer than 256 groups and stations; the first change that names one from 256 on is
-// refused.
-pub fn write_changes(heap: Global, changes: &[Change]) -> Result<Vec<u8>, Refusal>
+// The bytes that say this row.
+fn row(heap: Global, changes: &[Change]) -> Result<Vec<u8>, Refusal>
     ensures { Answers vec_items result (written_row changes.now) }
 {
     let mut bytes = Vec::new(heap);
@@ -45,4 +47,14 @@ pub fn write_changes(heap: Global, changes: &[Change]) -> Result<Vec<u8>, Refusa
         write_change(&mut bytes, *change)?;
     }
     Ok(bytes)
+}
+
+// The bytes that say this row. The first change that names a group or a station from 256 on, of which no list has any, is refused;
+// what can be made is written, but for want of memory, and read as that row.
+#[tactic(auto, using(crate::proofs::RowWritten::written_answered))]
+pub fn write_changes(heap: Global, changes: &[Change]) -> Result<Vec<u8>, Refusal>
+    ensures answer { Answers vec_items result (written_row changes.now) }
+    ensures back { (v : Numbered) → Proper v.list → CanAll v changes.now → IfMemory result (λ bs. SaysRow v changes.now bs.items) }
+{
+    row(heap, changes)
 }

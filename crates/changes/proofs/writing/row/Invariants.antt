@@ -1,6 +1,6 @@
 use Rattle.std.proofs.Common.{◌≡◌, drop, vec_items}
 use Rattle.changes.specs.Bytes.{written_from, written_row}
-use Rattle.changes.proofs.writing.write_changes.Given as goal
+use Rattle.changes.proofs.writing.row.Given as goal
 
 -- what is left gives the whole
 abbrev pub invariant-loop-at : goal.invariant-loop-at
