@@ -6,7 +6,7 @@ use Rattle.std.proofs.lemmas.Bool.{cases_lt, eqb-true, le-leb, leb-false, lt-leb
 use Rattle.meetings.specs.declared.numbers.Meeting.{Meeting}
 use Rattle.meetings.specs.declared.refusal.Refusal.{Refusal}
 use Rattle.meetings.specs.Bytes.{meeting_at}
-use Rattle.meetings.specs.Refusals.{Answers, accepted, refused, then}
+use Rattle.meetings.specs.Refusals.{Answers, Outcome, accepted, refused, then}
 use Rattle.meetings.specs.RoundTrips.{AllBytes}
 use Rattle.meetings.proofs.Accepted.{Met, meeting_accepted}
 use Rattle.meetings.proofs.Outcomes.{accepted_from_ok, then_accepted, unless_refused}
@@ -14,7 +14,7 @@ use Rattle.changes.specs.declared.change.Change.{Change}
 use Rattle.changes.specs.declared.change.Change.TheVariants.{Add, Drop, GetRoom, GiveRoomUp}
 use Rattle.changes.specs.Bytes.{bytes_of_change, bytes_of_changes, change_at, changes_at, id_at, next_at, read_row, width_of}
 use Rattle.changes.specs.Numbered.{Numbered, can, changed, rounds_for, tested}
-use Rattle.changes.specs.Rows.{CanAll, ReadThenWritten, TestedAsMade, made_all, rounds_after}
+use Rattle.changes.specs.Rows.{CanAll, OnlyWhatCan, ReadThenWritten, TestedAs, TestedAsMade, made_all, rounds_after}
 
 -- a row that can be made, as it is tested
 pub tested_as_made : TestedAsMade
@@ -28,6 +28,17 @@ never e = let z : ◌≡◌ {A = ℕ} 0 1 = cc e in omega arith
 
 pub same : {T : Type 0} (x y : T) → accepted x ≡ accepted y → x ≡ y
 same x y e = cc
+
+only_if : {T : Type 0} (b : Bool) (number place : ℕ) (o : Outcome T) (y : T) → cond b o (refused number place) ≡ accepted y → (b ≡ true) × (o ≡ accepted y)
+only_if true number place o y e = (refl, e)
+only_if false number place o y e = absurd (never e)
+
+-- a row that is accepted can be made
+pub only_what_can : OnlyWhatCan
+only_what_can v [] i rs p e = tt
+only_what_can v (c ∷ cs) i rs p e =
+    let more = only_if (can v c) 6 i (tested (changed v c) cs (i + 1) (rs ++ rounds_for (changed v c) ∷ [])) p e in
+    (more.0, only_what_can (changed v c) cs (i + 1) (rs ++ rounds_for (changed v c) ∷ []) p more.1)
 
 three_bytes : (bs : List ℕ) (at : ℕ) → at + 2 < length bs → drop at bs ≡ get_or bs at 0 ∷ get_or bs (at + 1) 0 ∷ get_or bs (at + 2) 0 ∷ drop (at + 3) bs
 three_bytes bs at h =
@@ -115,11 +126,8 @@ wide GetRoom = omega arith
 next_accepted : (v : Numbered) (bs : List ℕ) (at z : ℕ) (c : Change) → next_at v bs at z ≡ accepted c → (change_at bs at v.list.groups v.list.stations z ≡ accepted c) × (can v c ≡ true)
 next_accepted v bs at z c e =
     let one = then_accepted (change_at bs at v.list.groups v.list.stations z) (λ c. cond (can v c) (accepted c) (refused 6 z)) c e in
-    made one.0 (can v one.0) refl one.1 one.2
-  where
-    made : (d : Change) (b : Bool) → can v d ≡ b → change_at bs at v.list.groups v.list.stations z ≡ accepted d → cond b (accepted d) (refused 6 z) ≡ accepted c → (change_at bs at v.list.groups v.list.stations z ≡ accepted c) × (can v c ≡ true)
-    made d true may is e = (is ∙ e, ap (can v) (sym (same d c e)) ∙ may)
-    made d false may is e = absurd (never e)
+    let may = only_if (can v one.0) 6 z (accepted one.0) c one.2 in
+    (one.1 ∙ may.1, ap (can v) (sym (same one.0 c may.1)) ∙ may.0)
 
 changes_accepted : (left : ℕ) (v : Numbered) (bs : List ℕ) (at : ℕ) (came cs : List Change) → AllBytes bs → length bs ≤ at + left → changes_at v bs left at came ≡ accepted cs → Said v bs at came cs
 changes_accepted zero v bs at came cs byte enough e = said_none v bs at came cs (omega arith) e
@@ -146,6 +154,6 @@ module _ (v : Numbered) (bs : List ℕ) (byte : AllBytes bs) where
   read_back (Ok cs) answer = (read_then_written v bs cs.items byte (accepted_from_ok vec_items cs answer)).1
   read_back (Err e) answer = tt
 
-  pub read_made : (o : Result (Vec Change Global) Refusal) → Answers vec_items o (read_row v bs) → IfOk o (λ cs. tested v cs.items 0 [] ≡ accepted (made_all v cs.items, rounds_after v cs.items))
+  pub read_made : (o : Result (Vec Change Global) Refusal) → Answers vec_items o (read_row v bs) → IfOk o (λ cs. TestedAs v cs.items)
   read_made (Ok cs) answer = tested_as_made v cs.items 0 [] (read_then_written v bs cs.items byte (accepted_from_ok vec_items cs answer)).0
   read_made (Err e) answer = tt

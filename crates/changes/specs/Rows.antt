@@ -23,13 +23,23 @@ abbrev pub rounds_after : Numbered → List Change → List ℕ
 rounds_after v [] = []
 rounds_after v (c ∷ cs) = rounds_for (changed v c) ∷ rounds_after (changed v c) cs
 
+-- a row is tested as what it comes to
+abbrev pub TestedAs : Numbered → List Change → Type 0
+TestedAs v cs = tested v cs 0 [] ≡ accepted (made_all v cs, rounds_after v cs)
+
 -- what can be made is tested as that
 abbrev pub TestedAsMade : Type 0
 TestedAsMade =
     (v : Numbered) (cs : List Change) (i : ℕ) (rs : List ℕ) → CanAll v cs →
     tested v cs i rs ≡ accepted (made_all v cs, rs ++ rounds_after v cs)
 
--- what is accepted can be made, and is written as it stood
+-- nothing else is accepted
+abbrev pub OnlyWhatCan : Type 0
+OnlyWhatCan =
+    (v : Numbered) (cs : List Change) (i : ℕ) (rs : List ℕ) (p : Numbered × List ℕ) → tested v cs i rs ≡ accepted p →
+    CanAll v cs
+
+-- bytes that are accepted say what can be made, and are what it is written as
 abbrev pub ReadThenWritten : Type 0
 ReadThenWritten =
     (v : Numbered) (bs : List ℕ) (cs : List Change) → AllBytes bs → read_row v bs ≡ accepted cs →

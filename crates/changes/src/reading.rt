@@ -1,11 +1,11 @@
 // Reading a row of changes from its bytes.
-ghost use Rattle.std.specs.Prelude.{◌≡◌, ◌+◌, ◌<◌, ◌≤◌, ◌^◌, true, [], length, IfOk, vec_items};
+ghost use Rattle.std.specs.Prelude.{◌≡◌, ◌+◌, ◌<◌, ◌≤◌, ◌^◌, true, length, IfOk, vec_items};
 ghost use Rattle.meetings.specs.Held.{contents};
-ghost use Rattle.meetings.specs.Refusals.{Answers, accepted, outcome};
+ghost use Rattle.meetings.specs.Refusals.{Answers, outcome};
 ghost use Rattle.changes.specs.Bytes.{bytes_of_changes, change_at, id_at, next_at, read_row, width_of};
-ghost use Rattle.changes.specs.Numbered.{can, tested, whole};
+ghost use Rattle.changes.specs.Numbered.{can, whole};
 ghost use Rattle.changes.specs.Registered.{registered};
-ghost use Rattle.changes.specs.Rows.{made_all, rounds_after};
+ghost use Rattle.changes.specs.Rows.{TestedAs};
 
 use crate::change::Change;
 use crate::register::Register;
@@ -88,7 +88,7 @@ fn row(heap: Global, list: &MeetingList, bytes: &[u8]) -> Result<Vec<Change>, Re
 pub fn read_changes(heap: Global, list: &MeetingList, bytes: &[u8]) -> Result<Vec<Change>, Refusal>
     ensures answer { Answers vec_items result (read_row (whole (contents list.now)) bytes.now) }
     ensures back { IfOk result (λ cs. bytes_of_changes cs.items ≡ bytes.now) }
-    ensures made { IfOk result (λ cs. tested (whole (contents list.now)) cs.items 0 [] ≡ accepted (made_all (whole (contents list.now)) cs.items, rounds_after (whole (contents list.now)) cs.items)) }
+    ensures made { IfOk result (λ cs. TestedAs (whole (contents list.now)) cs.items) }
 {
     row(heap, list, bytes)
 }

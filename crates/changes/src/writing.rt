@@ -28,7 +28,10 @@ fn write_change(bytes: &mut Vec<u8>, change: Change) -> Result<(), Refusal>
     bytes.push(change.number())?;
     match change {
         // `as`, since it is proved to fit
-        Change::Add(meeting) => bytes.extend_from_slice(&[meeting.group.0 as u8, meeting.station.0 as u8])?,
+        Change::Add(meeting) => bytes.extend_from_slice(&[
+            meeting.group.0 as u8,
+            meeting.station.0 as u8,
+        ])?,
         Change::Drop(MeetingId(i)) => bytes.extend_from_slice(&i.to_le_bytes())?,
         Change::GiveRoomUp | Change::GetRoom => (),
     }

@@ -13,6 +13,7 @@ returns-in_err-change c =
 pub loop-at-preserved : goal.loop-at-preserved
 loop-at-preserved c =
     let long : c.len.result ≡ length (vec_items c.loop-at.read) = search rules in (
-    search rules,
-    search rules,
-    read_one (registered c.loop-at.register) c.args.bytes.now c.loop-at.at (vec_items c.loop-at.read) c.loop-at.invariant.2 (search rules) c.loop-at.invariant.1 c.len.result long c.in_ok-change.change _ _ _ c.in_ok-change.ensures.is (search rules) (search rules) (search rules))
+      search rules,
+      search rules,
+      read_one (registered c.loop-at.register) c.args.bytes.now c.loop-at.at (vec_items c.loop-at.read) c.loop-at.invariant.2 (search rules) c.loop-at.invariant.1 c.len.result long c.in_ok-change.change _ _ _ c.in_ok-change.ensures.is (search rules) (search rules) (search rules),
+    )
