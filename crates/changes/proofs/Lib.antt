@@ -19,6 +19,9 @@ pub mod ProperAfter
 pub mod PutAnew
 pub mod PuttingEach
 pub mod PuttingTurns
+pub mod ReadTurns
+pub mod RowAccepted
+pub mod RowWritten
 pub mod SizesKept
 pub mod Sorting
 pub mod Standing

@@ -1,3 +1,4 @@
+pub mod Bytes
 pub mod Days
 pub mod Keeping
 pub mod Kinds
@@ -6,6 +7,7 @@ pub mod MakingOn
 pub mod Numbered
 pub mod OnBoard
 pub mod Registered
+pub mod Rows
 pub mod Statements
 pub mod Tested
 pub mod Told

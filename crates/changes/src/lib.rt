@@ -9,6 +9,7 @@ mod making;
 mod making_again;
 mod moving;
 mod putting;
+mod reading;
 mod register;
 mod rows;
 mod sizes;
@@ -16,8 +17,15 @@ mod taking;
 mod tested;
 mod testing;
 mod theorems;
+mod writing;
 
 pub use change::Change;
 pub use changed::Changed;
+pub use reading::read_changes;
 pub use rows::change_day;
-pub use theorems::{change_leaves_a_day_that_stands, every_row_leaves_days_that_stand};
+pub use theorems::{
+    accepted_rows_can_be_made, change_leaves_a_day_that_stands, every_row_leaves_days_that_stand,
+    first_day_stands, rows_have_bytes, rows_read_as_written, rows_tested_as_made,
+    rows_written_as_read,
+};
+pub use writing::write_changes;
