@@ -23,7 +23,7 @@ use Rattle.changes.proofs.Noted.{goes_or_stays, new_has_none, noted_long, round_
 use Rattle.changes.proofs.OneChange.{change_proper, change_waits}
 use Rattle.changes.proofs.Waiting.{once_rises, passing_has, passing_rises, passing_within, rising_same}
 
-module _ (d : Day) (c : Change) (e : Board) (from to : ℕ) (b : BeforeChange d c e from to) where
+module _ (d : Day) (c : Change) (e : Board) (from to : ℕ) (b : BeforeChange d c (meetings_on e) e.shape (rounds_on e) from to) where
   abbrev pub v : Numbered
   v = changed (numbered d) c
 

@@ -46,7 +46,7 @@ dropped_here d c may j drop = omega (arith, (drop_there d drop.0.0 (subst (λ c.
 grown_long : (xs : List ℕ) (c : Change) (j : ℕ) → Dropped c j → j < length xs → j < length (grown xs c)
 grown_long xs c j drop h = subst (λ c. j < length (grown xs c)) (sym drop.1) h
 
-module _ (d : Day) (c : Change) (e e1 e2 f : Board) (from to : ℕ) (b : BeforeChange d c e from to) (ns ns1 ns1' ns2 bs bs1 ws js : List ℕ) (notes : Notes e e1 c ns ns1 bs bs1 ws) (rest : TakesRest e1 e2 from to ns1' ns2 ws js) (looks : ℕ) (tv tw : Found) (again : PutOn e2 f (even_out to (meetings_on e2) (put_each to (meetings_on e2) js (placed (rounds_on e2) 0))) looks) (touches : Touches tv tw (steps_again to (meetings_on e2) js (rounds_on e2))) (empty : found_in tv ≡ []) where
+module _ (d : Day) (c : Change) (e e1 e2 f : Board) (from to : ℕ) (b : BeforeChange d c (meetings_on e) e.shape (rounds_on e) from to) (ns ns1 ns1' ns2 bs bs1 ws js : List ℕ) (notes : Notes e e1 c ns ns1 bs bs1 ws) (rest : TakesRest e1 e2 from to ns1' ns2 ws js) (looks : ℕ) (tv tw : Found) (again : PutOn e2 f (even_out to (meetings_on e2) (put_each to (meetings_on e2) js (placed (rounds_on e2) 0))) looks) (touches : Touches tv tw (steps_again to (meetings_on e2) js (rounds_on e2))) (empty : found_in tv ≡ []) where
   abbrev v : Numbered
   v = changed (numbered d) c
 
@@ -97,6 +97,10 @@ module _ (d : Day) (c : Change) (e e1 e2 f : Board) (from to : ℕ) (b : BeforeC
   pub touched_each : Once (found_in tw)
   touched_each = touched_once d c b.stands b.may _ (λ i. refl) (found_in tw) touched_is
 
+  -- nothing was written but the rows of the board
+  pub becomes_so : Becomes e f (rounds_on f)
+  becomes_so = becomes_then e e2 f _ _ _ (becomes_then e e1 e2 _ _ _ notes.board rest.board refl) again.board (sym again.board.rounds)
+
   -- the rounds before are those that are noted
   module _ (before : (i : ℕ) → round_of bs i ≡ round_of (rounds_on e) i) (long : length (meetings_on e) ≤ length bs) where
     pub before_so : (i : ℕ) → round_of bs1 i ≡ round_of (noted d.at c) i
@@ -105,9 +109,9 @@ module _ (d : Day) (c : Change) (e e1 e2 f : Board) (from to : ℕ) (b : BeforeC
         ∙ dropped_agree bs (rounds_on e) c (λ j drop. let here = grown_long d.at c j drop (dropped_here d c b.may j drop) in (omega (arith, here, ap length b.rounds, e.held.each, long), omega (arith, here, ap length b.rounds))) before i
         ∙ ap (λ l. round_of l i) (start_is d c e from to b)
 
-    pub made_told : (many : ℕ) → many ≡ count_by (λ i. moved (round_of bs1 i) (round_of (rounds_on f) i)) (found_in tw) → AfterChange d c e f (record { rounds = to; looks = looks; moved = many })
+    pub made_told : (many : ℕ) → many ≡ count_by (λ i. moved (round_of bs1 i) (round_of (rounds_on f) i)) (found_in tw) → AfterChange d c (rounds_on f) (record { rounds = to; looks = looks; moved = many })
     made_told many counted = record {
-      board = becomes_then e e2 f _ _ _ (becomes_then e e1 e2 _ _ _ notes.board rest.board refl) again.board (sym again.board.rounds ∙ rounds_then);
+      rounds = rounds_then;
       told = same to looks many (b.then ∙ sym next_rounds) looks_then (counted ∙ ap (λ ys. count_by (λ i. moved (round_of bs1 i) (round_of ys i)) (found_in tw)) rounds_then ∙ moved_counted d c b.stands b.may bs1 before_so (found_in tw) touched_is);
     }
       where

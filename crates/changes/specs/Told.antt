@@ -4,16 +4,12 @@ use Rattle.meetings.specs.Lists.{Contents}
 use Rattle.meetings.specs.Refusals.{Outcome, accepted, then}
 use Rattle.fewest.specs.Rounds.{fewest, largest}
 use Rattle.chains.specs.Shapes.{lent_shape, shape_of}
-use Rattle.balance.specs.Lent.{BoardLent, plan_of}
+use Rattle.balance.specs.Lent.{BoardLent}
 use Rattle.changes.specs.declared.change.Change.{Change}
 use Rattle.changes.specs.declared.changed.Changed.{Changed}
-use Rattle.changes.specs.Days.{Day, number_moved, rounds_of}
+use Rattle.changes.specs.Days.{Day, first_day, number_moved, rounds_of}
 use Rattle.changes.specs.Making.{after}
 use Rattle.changes.specs.Numbered.{tested, whole}
-
--- the day before any change: the plan of a list
-abbrev pub first_day : Contents → Day
-first_day d = record { list = d; at = (plan_of d).rounds }
 
 -- what is told of a change that makes the day d the day e with so many looks
 abbrev pub told_of : Day → Day → ℕ → Changed

@@ -96,14 +96,15 @@ pub(crate) fn make(
     to: u16,
     kept: &mut Kept,
 ) -> Changed
-    requires before { (d : Day) × BeforeChange d change board.old from to }
-    requires beside { Beside board.old kept.old (length kept.old.before.items) (length kept.old.sizes.items) }
+    requires before { (d : Day) × BeforeChange d change (meetings_on board.old) board.old.shape (rounds_on board.old) from to }
+    requires beside { Beside board.old.shape (rounds_on board.old) kept.old (length kept.old.before.items) (length kept.old.sizes.items) }
     requires long { length (meetings_on board.old) ≤ length kept.old.before.items }
     requires from { from ≤ length kept.old.sizes.items }
     requires to { to ≤ length kept.old.sizes.items }
     requires few { length kept.old.sizes.items ≤ none }
-    ensures made { (d : Day) → BeforeChange d change board.old from to → AfterChange d change board.old board.new result }
-    ensures beside { Beside board.new kept.new (length kept.old.before.items) (length kept.old.sizes.items) }
+    ensures board { Becomes board.old board.new (rounds_on board.new) }
+    ensures made { (d : Day) → BeforeChange d change (meetings_on board.old) board.old.shape (rounds_on board.old) from to → AfterChange d change (rounds_on board.new) result }
+    ensures beside { Beside board.new.shape (rounds_on board.new) kept.new (length kept.old.before.items) (length kept.old.sizes.items) }
 {
     note(
         board,

@@ -1,6 +1,6 @@
 // What is proved of changes for every day and every row, each as the contract of a function that does nothing.
 ghost use Rattle.changes.specs.Days.{FirstDayStands};
-ghost use Rattle.changes.specs.Statements.{Changes, Rows};
+ghost use Rattle.changes.specs.Statements.{EveryChange, EveryRow};
 ghost use Rattle.changes.specs.Rows.{OnlyWhatCan, ReadThenWritten, TestedAsMade, WrittenAsBytes, WrittenThenRead};
 
 // The first day of a proper list stands.
@@ -41,11 +41,11 @@ pub fn rows_have_bytes()
 // Every change that can be made leaves a day that stands, made from the day before by the rule.
 #[tactic(auto, using(crate::proofs::NextDay::changes))]
 pub fn change_leaves_a_day_that_stands()
-    ensures { Changes }
+    ensures { EveryChange }
 {}
 
 // So does every change of a row.
 #[tactic(auto, using(crate::proofs::NextDay::rows))]
 pub fn every_row_leaves_days_that_stand()
-    ensures { Rows }
+    ensures { EveryRow }
 {}

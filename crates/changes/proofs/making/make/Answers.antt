@@ -8,7 +8,7 @@ use Rattle.chains.specs.Partial.{Partial, round_of}
 use Rattle.placing.proofs.AllTurns.{still_unused}
 use Rattle.balance.specs.Sizes.{sizes_of}
 use Rattle.changes.specs.Days.{moved}
-use Rattle.changes.specs.OnBoard.{AreOut, CanPut, Noted, TakesRest}
+use Rattle.changes.specs.OnBoard.{AreOut, CanPut, Noted}
 use Rattle.changes.proofs.CanMake.{can_note, can_put, newcomer_out, plan_now}
 use Rattle.changes.proofs.OneMade.{made_told, noted_for_next, rest_is, room_also, touched_each, touched_here}
 use Rattle.changes.proofs.making.make.Goals as goal

@@ -1,5 +1,5 @@
 -- Whoever is in a round that is no more goes, and then those that wait are sorted.
-use Rattle.std.proofs.Common.{◌≤◌, ◌∙◌, ap, arith, length}
+use Rattle.std.proofs.Common.{◌≤◌, ◌∙◌, arith, length}
 use Rattle.fewest.specs.Plans.{none}
 use Rattle.chains.specs.Boards.{meetings_on, rounds_on}
 use Rattle.changes.proofs.TakingRest.{cleared_sizes, rest_goes, rest_stays}

@@ -1,5 +1,5 @@
 -- What waits is put in, and then the rounds are evened out.
-use Rattle.std.proofs.Common.{◌≤◌, arith}
+use Rattle.std.proofs.Common.{arith}
 use Rattle.changes.proofs.MakingAgain.{both_put, both_touch, looks_fit, put_plan}
 use Rattle.changes.proofs.making_again.make_again.Goals as goal
 

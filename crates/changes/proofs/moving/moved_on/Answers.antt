@@ -1,5 +1,5 @@
 -- No more were touched than there are meetings.
-use Rattle.std.proofs.Common.{◌≤◌, length, ap, arith}
+use Rattle.std.proofs.Common.{length, ap, arith}
 use Rattle.chains.specs.Boards.{meetings_on}
 use Rattle.chains.specs.Finding.{found_in}
 use Rattle.chains.proofs.Members.{once_short}
