@@ -1,4 +1,12 @@
 // Making a row of changes.
+ghost use Rattle.std.specs.Prelude.{◌≡◌, ◌≤◌, length};
+ghost use Rattle.fewest.specs.Plans.{none};
+ghost use Rattle.chains.specs.Rows.{Holds};
+ghost use Rattle.balance.specs.Lent.{BoardLent};
+ghost use Rattle.changes.specs.Days.{Day};
+ghost use Rattle.changes.specs.Keeping.{Beside};
+ghost use Rattle.changes.specs.MakingOn.{AfterChange, BeforeChange};
+
 use crate::change::Change;
 use crate::changed::Changed;
 use crate::kept::Kept;
@@ -11,7 +19,7 @@ use fewest::{fewest_rounds, largest_of};
 use meetings::{Lent, Meeting, MeetingList, Refusal};
 use std::alloc::Global;
 
-// Makes a change over lent slices that are a board.
+// Makes a change over lent slices that are a board of so many rounds, which has so many then.
 fn make_lent(
     meetings: &[Meeting],
     shape: Shape,
@@ -22,7 +30,18 @@ fn make_lent(
     from: u16,
     to: u16,
     kept: &mut Kept,
-) -> Changed {
+) -> Changed
+    requires before { (d : Day) × BeforeChange d change meetings.now shape rounds.old from to }
+    requires held { Holds meetings.now shape rounds.old group_rows.old station_rows.old }
+    requires beside { Beside shape rounds.old kept.old (length kept.old.before.items) (length kept.old.sizes.items) }
+    requires long { length meetings.now ≤ length kept.old.before.items }
+    requires from { from ≤ length kept.old.sizes.items }
+    requires to { to ≤ length kept.old.sizes.items }
+    requires few { length kept.old.sizes.items ≤ none }
+    ensures made { (d : Day) → BeforeChange d change meetings.now shape rounds.old from to → AfterChange d change rounds.new result }
+    ensures rows { BoardLent meetings.now shape rounds.new group_rows.old group_rows.new station_rows.old station_rows.new }
+    ensures beside { Beside shape rounds.new kept.new (length kept.old.before.items) (length kept.old.sizes.items) }
+{
     let mut board = Board {
         meetings,
         shape,
