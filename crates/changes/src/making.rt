@@ -87,25 +87,27 @@ fn take_out_rest(
     waiting.sort_unstable();
 }
 
-// Makes a change on a board that has so many rounds before it, and so many after it. The meetings on the board are those that have a
-// number after the change.
-pub(crate) fn make(
-    board: &mut Board<'_>,
-    change: Change,
-    from: u16,
-    to: u16,
-    kept: &mut Kept,
-) -> Changed
-    requires before { (d : Day) × BeforeChange d change (meetings_on board.old) board.old.shape (rounds_on board.old) from to }
+// A change, the number of rounds before it, and that after it.
+#[derive(Clone, Copy)]
+pub(crate) struct Turn {
+    pub(crate) change: Change,
+    pub(crate) from: u16,
+    pub(crate) to: u16,
+}
+
+// Makes a change on a board. The meetings on the board are those that have a number after it.
+pub(crate) fn make(board: &mut Board<'_>, turn: Turn, kept: &mut Kept) -> Changed
+    requires before { (d : Day) × BeforeChange d turn.change (meetings_on board.old) board.old.shape (rounds_on board.old) turn.from turn.to }
     requires beside { Beside board.old.shape (rounds_on board.old) kept.old (length kept.old.before.items) (length kept.old.sizes.items) }
     requires long { length (meetings_on board.old) ≤ length kept.old.before.items }
-    requires from { from ≤ length kept.old.sizes.items }
-    requires to { to ≤ length kept.old.sizes.items }
+    requires from { turn.from ≤ length kept.old.sizes.items }
+    requires to { turn.to ≤ length kept.old.sizes.items }
     requires few { length kept.old.sizes.items ≤ none }
     ensures board { Becomes board.old board.new (rounds_on board.new) }
-    ensures made { (d : Day) → BeforeChange d change (meetings_on board.old) board.old.shape (rounds_on board.old) from to → AfterChange d change (rounds_on board.new) result }
+    ensures made { (d : Day) → BeforeChange d turn.change (meetings_on board.old) board.old.shape (rounds_on board.old) turn.from turn.to → AfterChange d turn.change (rounds_on board.new) result }
     ensures beside { Beside board.new.shape (rounds_on board.new) kept.new (length kept.old.before.items) (length kept.old.sizes.items) }
 {
+    let Turn { change, from, to } = turn;
     note(
         board,
         change,
