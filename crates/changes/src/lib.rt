@@ -11,6 +11,7 @@ mod moving;
 mod putting;
 mod reading;
 mod register;
+mod row;
 mod rows;
 mod sizes;
 mod taking;
