@@ -1,6 +1,6 @@
 -- One turn of a row of changes: what is left tells what the whole tells, and ends in its last day. Assumes nothing.
 use Rattle.std.proofs.Common.{◌≡◌, ℕ, ◌+◌, ◌-◌, ◌<◌, ◌≤◌, true, eqb, List, [], ◌∷◌, ◌++◌, length, get_or, take, drop, replicate, sym, refl, ap, vec_items, ◌∙◌, subst, ⊎_elim, arith}
-use Rattle.std.proofs.lemmas.List.{append_assoc, drop-drop, get_or-drop, get_or_append_left, get_or_past, get_or_push, length-append, length-drop, length-replicate}
+use Rattle.std.proofs.lemmas.List.{append-nil, append_assoc, drop-drop, drop_all, get_or-drop, get_or_default, get_or_append_left, get_or_past, get_or_push, length-append, length-drop, length-replicate, length-take-le}
 use Rattle.std.proofs.lemmas.List.Sums.{sum_by-append, sum_by-cons}
 use Rattle.std.proofs.lemmas.Bool.{cases_eq, cases_lt, ne_eqb}
 use Rattle.meetings.specs.declared.numbers.Meeting.{Meeting}
@@ -24,7 +24,7 @@ use Rattle.changes.specs.Keeping.{Beside}
 use Rattle.changes.specs.Making.{after}
 use Rattle.changes.specs.MakingOn.{AfterChange, BeforeChange, grown}
 use Rattle.changes.specs.Numbered.{Numbered, can, changed, list_after, rounds_for}
-use Rattle.changes.specs.RowOn.{CanMakeRow}
+use Rattle.changes.specs.RowOn.{CanMakeRow, added}
 use Rattle.changes.specs.Rows.{CanAll, made_all, rounds_after}
 use Rattle.changes.specs.Statements.{ChangeStands}
 use Rattle.changes.specs.Told.{last_day, told, told_of}
@@ -42,9 +42,17 @@ pub record MakingRow (d : Day) (cs : List Change) (ms : List Meeting) (rs : List
   pub station_rest : Beyond z.stations z.station_width ss ss'
   pub beside : Beside z e.at k m s
   pub many : n ≡ length e.list.meetings
+  pub few_rounds : from ≤ s
   pub told : now ++ told e (drop t cs) ≡ before ++ told d cs
   pub last : last_day e (drop t cs) ≡ last_day d cs
   pub long : length now ≡ length before + t
+
+-- how many meetings have a number after a change
+added_many : (d : Contents) (c : Change) → length d.meetings + added c ≡ length (list_after d c).meetings
+added_many d (Add x) = sym (length-append d.meetings (x ∷ []))
+added_many d (Drop i) = omega arith
+added_many d GiveRoomUp = omega arith
+added_many d GetRoom = omega arith
 
 -- a meeting more, without a round, changes no size
 grown_size : (xs : List ℕ) (c : Change) (a : ℕ) → a < none → in_round a (grown xs c) ≡ in_round a xs
@@ -95,6 +103,12 @@ module _ (d : Day) (cs : List Change) (ms : List Meeting) (rs : List ℕ) (z : S
   rounds_rest : drop (t + 1) rs ≡ rounds_after v (drop (t + 1) cs)
   rounds_rest = sym (drop-drop 1 t rs) ∙ ap (drop 1) rounds_first
 
+  pub many_then : (n' : ℕ) → n' ≡ n + added c → n' ≡ length v.list.meetings
+  many_then n' is = is ∙ ap (λ m. m + added c) so_far.many ∙ added_many e.list c
+
+  pub few_then : n ≤ none
+  few_then = omega (arith, so_far.many, so_far.held.few)
+
   -- of all meetings the first are those that have a number then
   module _ (n' : ℕ) (many : n' ≡ length v.list.meetings) where
     pub meetings_first : take n' ms ≡ v.list.meetings
@@ -134,8 +148,8 @@ module _ (d : Day) (cs : List Change) (ms : List Meeting) (rs : List ℕ) (z : S
     })
 
     -- AND THEN the next change can be made
-    pub making_more : (ys gs'' ss'' : List ℕ) (k' : Kept) (one : Changed) → AfterChange e c ys one → BoardLent (take n' ms) z ys gs' gs'' ss' ss'' → Beside z ys k' m s → MakingRow d cs ms rs z (ys ++ drop n' xs) gs gs'' ss ss'' k' m s n' (get_or rs t 0) (t + 1) before (now ++ one ∷ [])
-    making_more ys gs'' ss'' k' one made rows beside = record {
+    pub making_more : get_or rs t 0 ≤ s → (ys gs'' ss'' : List ℕ) (k' : Kept) (one : Changed) → AfterChange e c ys one → BoardLent (take n' ms) z ys gs' gs'' ss' ss'' → Beside z ys k' m s → MakingRow d cs ms rs z (ys ++ drop n' xs) gs gs'' ss ss'' k' m s n' (get_or rs t 0) (t + 1) before (now ++ one ∷ [])
+    making_more few ys gs'' ss'' k' one made rows beside = record {
       e = (after e c).day;
       ready = record {
         stands = next.stands;
@@ -154,6 +168,7 @@ module _ (d : Day) (cs : List Change) (ms : List Meeting) (rs : List ℕ) (z : S
       station_rest = (rows.station_rest.0 ∙ so_far.station_rest.0, rows.station_rest.1 ∙ so_far.station_rest.1);
       beside = subst (λ ys. Beside z ys k' m s) made.rounds beside;
       many = many ∙ ap (λ (l : Contents). length l.meetings) (sym same_list);
+      few_rounds = few;
       told = append_assoc now (one ∷ []) (told (after e c).day (drop (t + 1) cs)) ∙ ap (λ o. now ++ (o ∷ told (after e c).day (drop (t + 1) cs))) made.told ∙ ap (λ l. now ++ told e l) (sym first) ∙ so_far.told;
       last = ap (last_day e) (sym first) ∙ so_far.last;
       long = length-append now (one ∷ []) ∙ omega (arith, so_far.long);
@@ -167,3 +182,62 @@ module _ (d : Day) (cs : List Change) (ms : List Meeting) (rs : List ℕ) (z : S
 
         next_long : length (after e c).day.at ≡ length v.list.meetings
         next_long = next.stands.partial.each ∙ ap (λ (l : Contents). length l.meetings) same_list
+
+-- what one turn asks, of the first n' meetings and rounds
+pub record TurnReady (ms ms' : List Meeting) (z : Shape) (xs gs ss : List ℕ) (k : Kept) (m s n' from to : ℕ) (e : Day) (c : Change) : Type 0 where
+  pub meetings_enough : n' ≤ length ms'
+  pub rounds_enough : n' ≤ length xs
+  pub before : BeforeChange e c (take (n' - 0) ms') z (take (n' - 0) xs) from to
+  pub held : Holds (take (n' - 0) ms') z (take (n' - 0) xs) gs ss
+  pub beside : Beside z (take (n' - 0) xs) k (length (vec_items k.before)) (length (vec_items k.sizes))
+  pub long : length (take (n' - 0) ms') ≤ length (vec_items k.before)
+  pub from_few : from ≤ length (vec_items k.sizes)
+  pub to_few : to ≤ length (vec_items k.sizes)
+  pub few : length (vec_items k.sizes) ≤ none
+
+module _ (d : Day) (cs : List Change) (ms ms' : List Meeting) (rs : List ℕ) (z : Shape) (xs gs gs' ss ss' : List ℕ) (k : Kept) (m s n from t : ℕ) (before now : List Changed) (so_far : MakingRow d cs ms rs z xs gs gs' ss ss' k m s n from t before now) (c : Change) (first : drop t cs ≡ c ∷ drop (t + 1) cs) (n' to : ℕ) (is : n' ≡ n + added c) (same : ms' ≡ ms) (next : to ≡ get_or rs t to) where
+  many : n' ≡ length (changed (numbered so_far.e) c).list.meetings
+  many = many_then d cs ms rs z xs gs gs' ss ss' k m s n from t before now so_far c first n' is
+
+  whole : n' - 0 ≡ n'
+  whole = omega arith
+
+  pub to_first : to ≡ get_or rs t 0
+  to_first = next ∙ get_or_default rs t to 0 (more_rounds d cs ms rs z xs gs gs' ss ss' k m s n from t before now so_far c first)
+
+  pub turn_ready : length ms ≤ m → s ≤ none → ((i : ℕ) → i < length rs → get_or rs i 0 ≤ s) → TurnReady ms ms' z xs gs' ss' k m s n' from to so_far.e c
+  turn_ready long few all = record {
+    meetings_enough = omega (arith, le, ap length same);
+    rounds_enough = omega (arith, le, long_rounds d cs ms rs z xs gs gs' ss ss' k m s n from t before now so_far c first n' many);
+    before = rw (whole, same, to_first) (before_change d cs ms rs z xs gs gs' ss ss' k m s n from t before now so_far c first n' many);
+    held = rw (whole, same) (held_first d cs ms rs z xs gs gs' ss ss' k m s n from t before now so_far c first n' many);
+    beside = rw (whole, so_far.beside.room.meetings, so_far.beside.room.rounds) (beside_first d cs ms rs z xs gs gs' ss ss' k m s n from t before now so_far c first n' many few);
+    long = omega (arith, length-take-le (n' - 0) ms' (omega (arith, le, ap length same)), le, long, so_far.beside.room.meetings);
+    from_few = omega (arith, so_far.few_rounds, so_far.beside.room.rounds);
+    to_few = omega (arith, to_first, all t (more_rounds d cs ms rs z xs gs gs' ss ss' k m s n from t before now so_far c first), so_far.beside.room.rounds);
+    few = omega (arith, few, so_far.beside.room.rounds);
+  }
+    where
+      le : n' ≤ length ms
+      le = enough d cs ms rs z xs gs gs' ss ss' k m s n from t before now so_far c first n' many
+
+  pub turn_made : ((i : ℕ) → i < length rs → get_or rs i 0 ≤ s) → (ys gs'' ss'' : List ℕ) (k' : Kept) (one : Changed) → AfterChange so_far.e c ys one → BoardLent (take (n' - 0) ms') z ys gs' gs'' ss' ss'' → Beside z ys k' (length (vec_items k.before)) (length (vec_items k.sizes)) → MakingRow d cs ms rs z (ys ++ drop (n' - 0) xs) gs gs'' ss ss'' k' m s n' to (t + 1) before (now ++ one ∷ [])
+  turn_made all ys gs'' ss'' k' one made rows beside =
+      rw (whole, to_first) (making_more d cs ms rs z xs gs gs' ss ss' k m s n from t before now so_far c first n' many (all t (more_rounds d cs ms rs z xs gs gs' ss ss' k m s n from t before now so_far c first)) ys gs'' ss'' k' one made (subst (λ l. BoardLent l z ys gs' gs'' ss' ss'') (ap (λ j. take j ms') whole ∙ ap (take n') same) rows) (subst (λ l. Beside z ys k' l s) so_far.beside.room.meetings (subst (λ l. Beside z ys k' (length (vec_items k.before)) l) so_far.beside.room.rounds beside)))
+
+-- when all are made the slices are those of the last day
+pub row_made : (d : Day) (cs : List Change) (ms : List Meeting) (rs : List ℕ) (z : Shape) (xs gs gs' ss ss' : List ℕ) (k : Kept) (m s n from t : ℕ) (before now : List Changed) → length cs ≤ t → MakingRow d cs ms rs z xs gs gs' ss ss' k m s n from t before now → BoardLent ms z xs gs gs' ss ss'
+row_made d cs ms rs z xs gs gs' ss ss' k m s n from t before now all so_far = record {
+  board = subst (λ ms. Holds ms z xs gs' ss') (sym meetings_last) (subst (λ xs. Holds so_far.e.list.meetings z xs gs' ss') (sym rounds_last) so_far.held);
+  group_rest = so_far.group_rest;
+  station_rest = so_far.station_rest;
+}
+  where
+    nothing : drop t cs ≡ []
+    nothing = drop_all t cs all
+
+    meetings_last : ms ≡ so_far.e.list.meetings
+    meetings_last = so_far.ready.all ∙ ap (λ l. (made_all (numbered so_far.e) l).list.meetings) nothing
+
+    rounds_last : xs ≡ so_far.e.at
+    rounds_last = so_far.ready.at ∙ ap (λ j. so_far.e.at ++ replicate j none) (let none_more : length ms - length so_far.e.at ≡ 0 = omega (arith, ap length meetings_last, so_far.ready.stands.partial.each) in none_more) ∙ append-nil so_far.e.at

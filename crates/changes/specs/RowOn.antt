@@ -6,9 +6,17 @@ use Rattle.fewest.specs.Plans.{none}
 use Rattle.chains.specs.declared.shapes.Shape.{Shape}
 use Rattle.chains.specs.Rows.{ManyWithin}
 use Rattle.changes.specs.declared.change.Change.{Change}
+use Rattle.changes.specs.declared.change.Change.TheVariants.{Add, Drop, GetRoom, GiveRoomUp}
 use Rattle.changes.specs.declared.row.Row.{Row}
 use Rattle.changes.specs.Days.{Day, Stands, numbered, rounds_of}
 use Rattle.changes.specs.Rows.{CanAll, made_all, rounds_after}
+
+-- how many numbers a change gives out
+abbrev pub added : Change → ℕ
+added (Add m) = 1
+added (Drop i) = 0
+added GiveRoomUp = 0
+added GetRoom = 0
 
 -- the day before a row of changes, where the lent rounds are xs
 abbrev pub day_before : Row → List ℕ → Day

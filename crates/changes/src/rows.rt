@@ -7,7 +7,7 @@ ghost use Rattle.balance.specs.Lent.{BoardLent};
 ghost use Rattle.changes.specs.Days.{Day};
 ghost use Rattle.changes.specs.Keeping.{Beside};
 ghost use Rattle.changes.specs.MakingOn.{AfterChange, BeforeChange};
-ghost use Rattle.changes.specs.RowOn.{CanMakeRow, day_before};
+ghost use Rattle.changes.specs.RowOn.{CanMakeRow, added, day_before};
 ghost use Rattle.changes.specs.Told.{last_day, told};
 
 use crate::change::Change;
@@ -53,6 +53,17 @@ fn make_lent(
     make(&mut board, turn, kept)
 }
 
+// How many meetings have a number after a change.
+fn many_after(many: usize, change: Change) -> usize
+    requires { many ≤ none }
+    ensures { result ≡ many + added change }
+{
+    match change {
+        Change::Add(_) => many + 1,
+        Change::Drop(_) | Change::GiveRoomUp | Change::GetRoom => many,
+    }
+}
+
 // Makes the changes of a row one after the other.
 fn make_each(
     row: &Row<'_>,
@@ -78,9 +89,7 @@ fn make_each(
     let mut many = row.list.meetings().len();
     let mut from = row.rounds;
     for (at, change) in row.changes.iter().enumerate() {
-        if let Change::Add(_) = change {
-            many += 1;
-        }
+        many = many_after(many, *change);
         let to = row.tested.rounds[at];
         let turn = Turn {
             change: *change,
