@@ -1,13 +1,13 @@
 // Making a row of changes.
-ghost use Rattle.std.specs.Prelude.{◌≡◌, ℕ, ◌+◌, ◌<◌, ◌≤◌, ◌++◌, length, slice_index, vec_capacity};
+ghost use Rattle.std.specs.Prelude.{◌≡◌, ℕ, ◌+◌, ◌-◌, ◌<◌, ◌≤◌, ◌++◌, length, replicate, slice_index, take, vec_capacity};
 ghost use Rattle.meetings.specs.Held.{contents};
 ghost use Rattle.fewest.specs.Plans.{none};
 ghost use Rattle.chains.specs.Rows.{Holds};
 ghost use Rattle.balance.specs.Lent.{BoardLent};
-ghost use Rattle.changes.specs.Days.{Day};
-ghost use Rattle.changes.specs.Keeping.{Beside};
+ghost use Rattle.changes.specs.Days.{Day, first_day};
+ghost use Rattle.changes.specs.Keeping.{Beside, Blank};
 ghost use Rattle.changes.specs.MakingOn.{AfterChange, BeforeChange};
-ghost use Rattle.changes.specs.RowOn.{CanMakeRow, added, day_before};
+ghost use Rattle.changes.specs.RowOn.{CanMakeFirst, CanMakeRow, added, day_before, most_rounds};
 ghost use Rattle.changes.specs.Told.{last_day, told};
 
 use crate::change::Change;
@@ -15,12 +15,8 @@ use crate::changed::Changed;
 use crate::kept::Kept;
 use crate::making::{Turn, make};
 use crate::row::Row;
-use crate::testing::test;
-use balance::{count_rounds, plan};
 use chains::{Board, NONE, Shape};
-use fewest::{fewest_rounds, largest_of};
-use meetings::{Lent, Meeting, MeetingList, Refusal};
-use std::alloc::Global;
+use meetings::Meeting;
 
 // Makes a change over lent slices that are a board.
 fn make_lent(
@@ -109,36 +105,42 @@ fn make_each(
     }
 }
 
-// Plans a day and makes the changes.
-pub fn change_day(
-    heap: Global,
-    list: &MeetingList,
-    changes: &[Change],
+// No rounds from the first of these on.
+fn clear_from(rounds: &mut [u16], first: usize)
+    requires { first ≤ length rounds.old }
+    ensures { rounds.new ≡ take first rounds.old ++ replicate (length rounds.old - first) none }
+{
+    rounds[first..].fill(NONE);
+}
+
+// Makes the changes of a row over lent slices that hold the plan of its list.
+pub(crate) fn make_row(
+    row: &Row<'_>,
+    shape: Shape,
     rounds: &mut [u16],
     group_rows: &mut [u16],
     station_rows: &mut [u16],
-) -> Result<Vec<Changed>, Refusal> {
-    let tested = test(heap, list, changes)?;
-    let first = fewest_rounds(heap, list)?;
-    let most = largest_of(&tested.rounds).max(first);
-    let many = tested.meetings.len();
-    if rounds.len() < many {
-        return Err(Refusal::ShortSlice(Lent::Rounds));
-    }
-    let shape = Shape::of_lent(list, most, rounds.len(), group_rows.len(), station_rows.len())?;
-    let mut kept = Kept::blank(heap, shape, many, most)?;
-    let mut answers = Vec::with_capacity(heap, changes.len())?;
-    plan(heap, list, rounds, group_rows, station_rows)?;
-    let row = Row {
-        list,
-        rounds: first,
-        changes,
-        tested,
-    };
-    let planned = list.meetings().len();
-    rounds[planned..many].fill(NONE);
-    count_rounds(&rounds[0..planned], &mut kept.sizes);
-    kept.before[0..planned].copy_from_slice(&rounds[0..planned]);
-    make_each(&row, shape, &mut rounds[0..many], group_rows, station_rows, &mut kept, &mut answers);
-    Ok(answers)
+    kept: &mut Kept,
+    answers: &mut Vec<Changed>,
+)
+    requires row { CanMakeFirst row.now shape (length rounds.old) }
+    requires planned { take (length (contents row.now.list.now).meetings) rounds.old ≡ (first_day (contents row.now.list.now)).at }
+    requires held { Holds (contents row.now.list.now).meetings shape (first_day (contents row.now.list.now)).at group_rows.old station_rows.old }
+    requires blank { Blank kept.old shape (length rounds.old) (most_rounds row.now) }
+    requires room { length answers.old.items + length row.now.changes.now ≤ vec_capacity answers.old }
+    ensures rounds { rounds.new ≡ (last_day (first_day (contents row.now.list.now)) row.now.changes.now).at }
+    ensures told { answers.new.items ≡ answers.old.items ++ told (first_day (contents row.now.list.now)) row.now.changes.now }
+    ensures rows { BoardLent row.now.tested.meetings.items shape rounds.new group_rows.old group_rows.new station_rows.old station_rows.new }
+{
+    clear_from(rounds, row.list.meetings().len());
+    kept.begin(rounds);
+    make_each(
+        row,
+        shape,
+        rounds,
+        group_rows,
+        station_rows,
+        kept,
+        answers,
+    );
 }
