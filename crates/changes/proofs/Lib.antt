@@ -21,6 +21,7 @@ pub mod PuttingEach
 pub mod PuttingTurns
 pub mod ReadTurns
 pub mod RowAccepted
+pub mod RowFirst
 pub mod RowParts
 pub mod RowTurns
 pub mod RowWritten

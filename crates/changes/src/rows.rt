@@ -106,7 +106,7 @@ fn make_each(
 }
 
 // No rounds from the first of these on.
-fn clear_from(rounds: &mut [u16], first: usize)
+fn no_rounds_from(rounds: &mut [u16], first: usize)
     requires { first ≤ length rounds.old }
     ensures { rounds.new ≡ take first rounds.old ++ replicate (length rounds.old - first) none }
 {
@@ -132,7 +132,7 @@ pub(crate) fn make_row(
     ensures told { answers.new.items ≡ answers.old.items ++ told (first_day (contents row.now.list.now)) row.now.changes.now }
     ensures rows { BoardLent row.now.tested.meetings.items shape rounds.new group_rows.old group_rows.new station_rows.old station_rows.new }
 {
-    clear_from(rounds, row.list.meetings().len());
+    no_rounds_from(rounds, row.list.meetings().len());
     kept.begin(rounds);
     make_each(
         row,
