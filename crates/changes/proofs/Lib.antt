@@ -2,6 +2,7 @@ pub mod AfterMaking
 pub mod Again
 pub mod BeforeMaking
 pub mod CanMake
+pub mod DayLent
 pub mod DayMade
 pub mod EveningFirst
 pub mod FirstDay
