@@ -1,9 +1,9 @@
 -- After a change: who is named by no step has the round that was noted, so that counting those that were moved among the named ones
 -- counts them all, and the rounds for the next change are noted for all. Assumes nothing.
-use Rattle.std.proofs.Common.{◌≡◌, ℕ, zero, suc, ◌+◌, ◌<◌, ◌≤◌, Bool, true, false, cond, not, ◌&&◌, ◌||◌, eqb, ltb, ◌⊎◌, List, [], length, get_or, map, set, count_by, sym, refl, ap, ◌∙◌, subst, ⊎_elim, arith}
+use Rattle.std.proofs.Common.{◌≡◌, ℕ, zero, suc, ◌<◌, ◌≤◌, Bool, true, false, cond, ◌&&◌, ltb, List, [], length, set, count_by, sym, refl, ap, ◌∙◌, subst, ⊎_elim, arith}
 use Rattle.std.proofs.lemmas.Bool.{both_ways, cases_Bool, cases_eq, cases_lt}
 use Rattle.std.proofs.lemmas.Bool.Decides.{nat_tests}
-use Rattle.std.proofs.lemmas.List.{get_or-map, get_or-set_same, get_or-set_other, get_or_past, length-map}
+use Rattle.std.proofs.lemmas.List.{get_or-map, get_or-set_same, get_or-set_other}
 use Rattle.fewest.specs.Counting.{count, one_if}
 use Rattle.fewest.specs.Plans.{none}
 use Rattle.fewest.proofs.Counting.{count_ext}
@@ -22,10 +22,10 @@ use Rattle.changes.specs.Numbered.{Numbered, can, changed, rounds_for}
 use Rattle.changes.specs.OnBoard.{Noted, dropped}
 use Rattle.changes.specs.Statements.{ChangeStands}
 use Rattle.changes.specs.Waiting.{is_there}
-use Rattle.changes.proofs.BeforeMaking.{has_some, some_has}
+use Rattle.changes.proofs.BeforeMaking.{some_has}
 use Rattle.changes.proofs.Leading.{named_below, unnamed_stays}
 use Rattle.changes.proofs.NextDay.{next_stands}
-use Rattle.changes.proofs.Noted.{Dropped, Goes, Stays, goes_or_stays, meetings_kept, new_has_none, round_taken}
+use Rattle.changes.proofs.Noted.{Dropped, goes_or_stays, meetings_kept, new_has_none, round_taken}
 
 -- what does not pass from m on is not counted
 count_longer : (p : ℕ → Bool) (m n : ℕ) → m ≤ n → ((i : ℕ) → m ≤ i → i < n → p i ≡ false) → count p n ≡ count p m

@@ -1,31 +1,26 @@
 -- What is known of a board before a change: the change can be noted, what is left then is a partial plan, and those that wait are
 -- those of the rule, so that they can be put in. Assumes nothing.
-use Rattle.std.proofs.Common.{◌≡◌, ℕ, ◌+◌, ◌-◌, ◌<◌, ◌≤◌, Bool, true, false, cond, not, ◌&&◌, ◌||◌, eqb, leb, ltb, ◌⊎◌, inl, inr, List, [], ◌∷◌, ◌++◌, length, get_or, map, sym, refl, ap, ◌∙◌, subst, ⊎_elim, arith}
-use Rattle.std.proofs.lemmas.Bool.{and_from, and_parts, both_ways, cases_lt, eq-eqb, eqb-true, ltb-true, leb-true, or_cases, or_left, or_right}
+use Rattle.std.proofs.Common.{◌≡◌, ℕ, ◌+◌, ◌-◌, ◌<◌, ◌≤◌, true, false, cond, ltb, ◌⊎◌, inl, inr, List, [], ◌∷◌, ◌++◌, length, get_or, map, sym, refl, ap, ◌∙◌, subst, ⊎_elim, arith}
+use Rattle.std.proofs.lemmas.Bool.{both_ways, cases_lt}
 use Rattle.std.proofs.lemmas.Bool.Decides.{nat_tests}
-use Rattle.std.proofs.lemmas.List.{ext_get_or, get_or-map, get_or_default, get_or_past, get_or_push, length-append, length-map}
-use Rattle.std.specs.List.Sorted.{IsNonDecreasing}
-use Rattle.meetings.specs.declared.numbers.Meeting.{Meeting}
+use Rattle.std.proofs.lemmas.List.{ext_get_or, get_or-map, get_or_past, get_or_push, length-append, length-map}
 use Rattle.meetings.specs.Lists.{Contents}
 use Rattle.fewest.specs.Plans.{none}
 use Rattle.chains.specs.declared.board.Board.{Board}
-use Rattle.chains.specs.Boards.{Becomes, meetings_on, rounds_on}
+use Rattle.chains.specs.Boards.{meetings_on, rounds_on}
 use Rattle.chains.specs.Chains.{holds}
 use Rattle.chains.specs.Partial.{Partial, round_of}
 use Rattle.chains.specs.Statements.{Once}
-use Rattle.chains.proofs.Members.{Fresh, held_cases, none_held, once_from_fresh}
+use Rattle.chains.proofs.Members.{held_cases, none_held, once_from_fresh}
 use Rattle.changes.specs.declared.change.Change.{Change}
 use Rattle.changes.specs.declared.change.Change.TheVariants.{Add, Drop, GetRoom, GiveRoomUp}
 use Rattle.changes.specs.Days.{Day, has_round, numbered}
-use Rattle.changes.specs.Making.{noted, start_of, taken_out, waiting}
-use Rattle.changes.specs.MakingOn.{BeforeChange, grown}
-use Rattle.changes.specs.Numbered.{Numbered, can, changed, list_after}
-use Rattle.changes.specs.OnBoard.{AreOut, CanNote, CanPut, TakesRest, dropped, goes, newcomer}
-use Rattle.changes.specs.Waiting.{Spared, WhilePutting, is_there}
-use Rattle.changes.proofs.Left.{spared}
-use Rattle.changes.proofs.Noted.{Goes, Stays, goes_or_stays, new_has_none, noted_long, round_taken, start_partial, there_long}
-use Rattle.changes.proofs.OneChange.{change_proper, change_waits}
-use Rattle.changes.proofs.Waiting.{once_rises, passing_rises, rising_same}
+use Rattle.changes.specs.Making.{noted, taken_out}
+use Rattle.changes.specs.MakingOn.{grown}
+use Rattle.changes.specs.Numbered.{can, changed, list_after}
+use Rattle.changes.specs.OnBoard.{CanNote, dropped, newcomer}
+use Rattle.changes.specs.Waiting.{is_there}
+use Rattle.changes.proofs.Noted.{goes_or_stays, new_has_none, round_taken, start_partial}
 
 -- with the round of an added meeting and without that of a dropped one the rounds are those of the rule
 pub grown_dropped : (xs : List ℕ) (c : Change) → dropped (grown xs c) c ≡ noted xs c

@@ -1,9 +1,7 @@
 -- On the board before a change: those that wait are those of the rule, and can be put in. Assumes nothing.
-use Rattle.std.proofs.Common.{◌≡◌, ℕ, ◌<◌, ◌≤◌, Bool, true, false, cond, ◌&&◌, ◌||◌, eqb, leb, ltb, ◌⊎◌, List, length, get_or, map, sym, refl, ap, ◌∙◌, subst, ⊎_elim, arith}
-use Rattle.std.proofs.lemmas.Bool.{and_from, and_parts, both_ways, cases_eq, cases_lt, eq-eqb, eqb-true, or_cases, or_left, or_right}
+use Rattle.std.proofs.Common.{◌≡◌, ℕ, ◌<◌, ◌≤◌, true, cond, ◌&&◌, ◌||◌, leb, ltb, ◌⊎◌, List, length, sym, ap, ◌∙◌, subst, ⊎_elim, arith}
+use Rattle.std.proofs.lemmas.Bool.{both_ways, cases_lt, or_cases, or_left, or_right}
 use Rattle.std.proofs.lemmas.Bool.Decides.{nat_tests}
-use Rattle.std.proofs.lemmas.List.{length-map}
-use Rattle.meetings.specs.declared.numbers.Meeting.{Meeting}
 use Rattle.fewest.specs.Plans.{none}
 use Rattle.chains.specs.declared.board.Board.{Board}
 use Rattle.chains.specs.Boards.{Becomes, meetings_on, rounds_on}
@@ -11,17 +9,17 @@ use Rattle.chains.specs.Chains.{holds}
 use Rattle.chains.specs.Partial.{Partial, round_of}
 use Rattle.changes.specs.declared.change.Change.{Change}
 use Rattle.chains.specs.Rows.{ManyWithin}
-use Rattle.changes.specs.Days.{Day, has_round, numbered, rounds_of}
+use Rattle.changes.specs.Days.{Day, numbered, rounds_of}
 use Rattle.changes.specs.Making.{noted, start_of, taken_out, waiting}
-use Rattle.changes.specs.MakingOn.{BeforeChange, grown}
-use Rattle.changes.specs.Numbered.{Numbered, can, changed, list_after, rounds_for}
+use Rattle.changes.specs.MakingOn.{BeforeChange}
+use Rattle.changes.specs.Numbered.{Numbered, changed, list_after, rounds_for}
 use Rattle.changes.specs.OnBoard.{AreOut, CanNote, CanPut, TakesRest, dropped, goes, newcomer}
 use Rattle.changes.specs.Waiting.{Spared, WhilePutting, is_there}
 use Rattle.changes.proofs.BeforeMaking.{grown_dropped, has_some, new_is, newcomer_is, newcomer_once, noted_partial, noted_round, noting, some_has}
 use Rattle.changes.proofs.NextDay as next
-use Rattle.changes.proofs.Noted.{goes_or_stays, new_has_none, noted_long, round_taken, there_long}
-use Rattle.changes.proofs.OneChange.{change_proper, change_waits}
-use Rattle.changes.proofs.Waiting.{once_rises, passing_has, passing_rises, passing_within, rising_same}
+use Rattle.changes.proofs.Noted.{goes_or_stays, new_has_none, round_taken}
+use Rattle.changes.proofs.OneChange.{change_waits}
+use Rattle.changes.proofs.Waiting.{once_rises, passing_rises, rising_same}
 
 module _ (d : Day) (c : Change) (e : Board) (from to : ℕ) (b : BeforeChange d c (meetings_on e) e.shape (rounds_on e) from to) where
   abbrev pub v : Numbered

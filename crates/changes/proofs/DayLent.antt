@@ -1,24 +1,31 @@
 -- What the lent slices hold after a day of changes: first the plan of the list, then the rounds of the last day. Assumes nothing.
-use Rattle.std.proofs.Common.{◌≡◌, ℕ, ◌+◌, ◌-◌, ◌*◌, ◌≤◌, List, [], ◌∷◌, ◌++◌, length, drop, take, vec_items, sym, refl, ap, ◌∙◌, subst, arith}
+use Rattle.std.proofs.Common.{Err, Global, IfOk, MatchResult, Ok, Result, Vec, max, ◌≡◌, ℕ, ◌+◌, ◌-◌, ◌*◌, ◌≤◌, List, [], ◌∷◌, ◌++◌, length, drop, take, vec_items, sym, refl, ap, ◌∙◌, subst, arith}
 use Rattle.std.proofs.lemmas.List.{take-append-le, take_all}
 use Rattle.std.proofs.lemmas.Slice.{drop-append-drop}
 use Rattle.std.proofs.Math.Seq.{take-append-add}
 use Rattle.meetings.specs.declared.numbers.Meeting.{Meeting}
+use Rattle.meetings.specs.declared.list.MeetingList.{MeetingList}
+use Rattle.meetings.specs.declared.refusal.Refusal.{Refusal}
+use Rattle.meetings.specs.Held.{contents}
 use Rattle.meetings.specs.Lists.{Contents, Proper}
+use Rattle.meetings.specs.Refusals.{Answers, accepted, then}
+use Rattle.meetings.proofs.Holds.{proper}
+use Rattle.meetings.proofs.Outcomes.{accepted_from_ok, then_accepted}
+use Rattle.fewest.specs.Rounds.{fewest, largest}
 use Rattle.chains.specs.declared.shapes.Shape.{Shape}
 use Rattle.chains.specs.Rows.{Beyond, Holds}
-use Rattle.chains.specs.Shapes.{shape_of}
-use Rattle.balance.specs.Lent.{BoardLent, PlannedLent, plan_of}
+use Rattle.chains.specs.Shapes.{lent_shape, shape_of}
+use Rattle.balance.specs.Lent.{BoardLent, PlannedLent, Unchanged, plan_of}
 use Rattle.changes.specs.declared.change.Change.{Change}
 use Rattle.changes.specs.declared.changed.Changed.{Changed}
 use Rattle.changes.specs.Days.{Day, Stands, first_day, numbered}
-use Rattle.changes.specs.Making.{Made, after}
-use Rattle.changes.specs.Numbered.{Numbered, whole}
+use Rattle.changes.specs.Making.{after}
+use Rattle.changes.specs.Numbered.{Numbered, tested, whole}
 use Rattle.changes.specs.Rows.{CanAll, made_all}
-use Rattle.changes.specs.Statements.{ChangeStands}
-use Rattle.changes.specs.Told.{ChangedLent, Promised, RowPromised, last_day, told}
+use Rattle.changes.specs.Told.{ChangedLent, Promised, RowPromised, answer_of, last_day, told}
 use Rattle.changes.proofs.FirstDay.{first_numbered, first_stands}
 use Rattle.changes.proofs.NextDay.{next_stands}
+use Rattle.changes.proofs.RowAccepted.{only_what_can}
 
 -- the last day stands, and has the meetings that the row comes to
 pub last_stands : (d : Day) (cs : List Change) → Stands d → CanAll (numbered d) cs → Stands (last_day d cs) × (numbered (last_day d cs) ≡ made_all (numbered d) cs)
@@ -88,3 +95,15 @@ module _ (d : Contents) (cs : List Change) (proper : Proper d) (can : CanAll (wh
     each = subst (λ ts. Promised (first_day d) cs ts (last_day (first_day d) cs)) (sym is) (promised (first_day d) cs (first_stands d proper) can_first);
     rounds = ap (take (length (last_day (first_day d) cs).list.meetings)) lent.rounds ∙ take-append-le (length (last_day (first_day d) cs).list.meetings) (last_day (first_day d) cs).at _ (omega (arith, last_each)) ∙ take_all (length (last_day (first_day d) cs).list.meetings) (last_day (first_day d) cs).at (omega (arith, last_each));
   }
+
+-- what is answered, and what the lent rounds hold then, keep the promise
+pub day_promised : (l : MeetingList) (cs : List Change) (xs xs' gs gs' ss ss' : List ℕ) (o : Result (Vec Changed Global) Refusal) → Answers vec_items o (answer_of (contents l) cs (length xs) (length gs) (length ss)) → MatchResult o (λ ts. ChangedLent (contents l) cs xs xs' gs gs' ss ss') (λ e. Unchanged xs xs' gs gs' ss ss') → IfOk o (λ ts. RowPromised (contents l) cs (vec_items ts) xs')
+day_promised l cs xs xs' gs gs' ss ss' (Ok ts) answer lent =
+    let d = contents l in
+    let one = then_accepted (tested (whole d) cs 0 []) (λ t. then (lent_shape t.0.list (max (fewest d) (largest t.1)) (length xs) (length gs) (length ss)) (λ z. accepted (told (first_day d) cs))) (vec_items ts) (accepted_from_ok vec_items ts answer) in
+    let two = then_accepted (lent_shape one.0.0.list (max (fewest d) (largest one.0.1)) (length xs) (length gs) (length ss)) (λ z. accepted (told (first_day d) cs)) (vec_items ts) one.2 in
+    row_promised d cs (proper l) (only_what_can (whole d) cs 0 [] one.0 one.1) (vec_items ts) xs xs' gs gs' ss ss' (sym (same _ _ two.2)) lent
+  where
+    same : (a b : List Changed) → accepted a ≡ accepted b → a ≡ b
+    same a b e = cc
+day_promised l cs xs xs' gs gs' ss ss' (Err e) answer lent = tt

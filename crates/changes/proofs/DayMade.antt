@@ -1,28 +1,24 @@
 -- A day of changes: what the test and the shape say is what the rule asks, and what is made in the lent slices is the last day.
 -- Assumes nothing.
-use Rattle.std.proofs.Common.{◌≡◌, ℕ, ◌+◌, ◌-◌, ◌<◌, ◌≤◌, max, false, cond, ltb, List, [], ◌∷◌, ◌++◌, length, drop, replicate, take, vec_items, sym, refl, ap, ◌∙◌, subst, ⊎_elim, arith}
+use Rattle.std.proofs.Common.{◌≡◌, ℕ, ◌≤◌, max, false, cond, ltb, List, [], ◌∷◌, length, vec_items, sym, refl, ap, ◌∙◌, ⊎_elim, arith}
 use Rattle.std.proofs.lemmas.Bool.{cases_lt, cond-false, cond-true, le-ltb, lt-ltb, ltb-false}
-use Rattle.std.proofs.lemmas.List.{drop-append-le, length-append, length-drop, length-replicate, length-take-le, take-append-le, take_all}
 use Rattle.meetings.specs.declared.numbers.Meeting.{Meeting}
 use Rattle.meetings.specs.Lists.{Contents}
 use Rattle.meetings.specs.Refusals.{Outcome, accepted, refused, then}
 use Rattle.meetings.proofs.Outcomes.{then_accepted, unless_refused}
-use Rattle.fewest.specs.Plans.{none}
 use Rattle.fewest.specs.Rounds.{fewest, largest}
 use Rattle.chains.specs.declared.shapes.Shape.{Shape}
-use Rattle.chains.specs.Rows.{Holds, ManyWithin}
-use Rattle.chains.specs.Shapes.{lent_shape, shape_of, width}
-use Rattle.chains.proofs.Fitting.{Fits, accepted_fits, fitting_accepted}
-use Rattle.balance.specs.Lent.{BoardLent, PlannedLent, plan_of}
+use Rattle.chains.specs.Rows.{ManyWithin}
+use Rattle.chains.specs.Shapes.{lent_shape, width}
+use Rattle.chains.proofs.Fitting.{Fits, accepted_fits}
 use Rattle.changes.specs.declared.change.Change.{Change}
-use Rattle.changes.specs.declared.changed.Changed.{Changed}
 use Rattle.changes.specs.declared.tested.Tested.{Tested}
-use Rattle.changes.specs.Days.{Day, first_day}
+use Rattle.changes.specs.Days.{first_day}
 use Rattle.changes.specs.Numbered.{Numbered, changed, tested, whole}
 use Rattle.changes.specs.RowOn.{LongEnough, shape_of_row}
 use Rattle.changes.specs.Rows.{CanAll, made_all, rounds_after}
 use Rattle.changes.specs.Tested.{row_tested, tested_lists}
-use Rattle.changes.specs.Told.{ChangedLent, answer_of, last_day, told}
+use Rattle.changes.specs.Told.{answer_of, told}
 use Rattle.changes.proofs.ProperAfter.{groups_kept, stations_kept}
 use Rattle.changes.proofs.RowAccepted.{only_what_can, tested_as_made}
 use Rattle.changes.proofs.RowParts.{meetings_below}

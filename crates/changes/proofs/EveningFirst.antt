@@ -1,6 +1,6 @@
 -- Evening out the first rounds: their sizes are the first of the sizes, and in the others there is no meeting before and after it.
 -- Assumes nothing.
-use Rattle.std.proofs.Common.{◌≡◌, ℕ, ◌+◌, ◌-◌, ◌<◌, ◌≤◌, List, [], ◌++◌, length, get_or, take, drop, sym, refl, ap, ◌∙◌, subst, ⊎_elim, arith}
+use Rattle.std.proofs.Common.{◌≡◌, ℕ, ◌+◌, ◌-◌, ◌<◌, ◌≤◌, List, ◌++◌, length, get_or, take, drop, sym, refl, ap, ◌∙◌, subst, ⊎_elim, arith}
 use Rattle.std.proofs.lemmas.Bool.{cases_lt}
 use Rattle.std.proofs.lemmas.List.{get_or_append_left, get_or-append_right, get_or-drop, get_or-take, length-append, length-drop, length-take-le}
 use Rattle.meetings.specs.declared.numbers.Meeting.{Meeting}
@@ -12,7 +12,7 @@ use Rattle.chains.specs.Finding.{Unused}
 use Rattle.chains.specs.Partial.{Partial}
 use Rattle.chains.specs.Rows.{ManyWithin}
 use Rattle.placing.specs.OnBoard.{PutOn}
-use Rattle.placing.specs.Putting.{Placed, placed}
+use Rattle.placing.specs.Putting.{placed}
 use Rattle.balance.specs.Evening.{even_out, even_steps}
 use Rattle.balance.specs.OnBoard.{EvensOn, ReadyToEven, RoomForTwo}
 use Rattle.balance.specs.Sizes.{sizes_of}

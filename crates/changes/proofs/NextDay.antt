@@ -1,6 +1,6 @@
 -- EVERY CHANGE that can be made leaves a day that stands, and so does every row of changes: the number of rounds spares the meetings
 -- that there are, so that all can be put in again. Assumes nothing.
-use Rattle.std.proofs.Common.{◌≡◌, ◌≤◌, true, List, [], ◌∷◌, length, subst, sym}
+use Rattle.std.proofs.Common.{◌≡◌, ◌≤◌, true, [], ◌∷◌, length, subst, sym}
 use Rattle.meetings.specs.Lists.{Proper}
 use Rattle.fewest.specs.Plans.{none}
 use Rattle.changes.specs.declared.change.Change.{Change}

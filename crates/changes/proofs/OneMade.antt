@@ -1,8 +1,7 @@
 -- A change that was made on a board, step by step, left the rule's next day; what is told of it is the rule's, and what is kept beside
 -- the board is ready for the next change. Assumes nothing.
-use Rattle.std.proofs.Common.{◌≡◌, ℕ, ◌<◌, ◌≤◌, true, List, [], ◌++◌, length, count_by, sym, refl, ap, ◌∙◌, subst, arith}
+use Rattle.std.proofs.Common.{◌≡◌, ℕ, ◌<◌, ◌≤◌, true, List, [], length, count_by, sym, refl, ap, ◌∙◌, subst, arith}
 use Rattle.meetings.specs.declared.numbers.Meeting.{Meeting}
-use Rattle.fewest.specs.Plans.{none}
 use Rattle.chains.specs.declared.board.Board.{Board}
 use Rattle.chains.specs.declared.found.Found.{Found}
 use Rattle.chains.specs.Boards.{Becomes, meetings_on, rounds_on}
@@ -13,22 +12,20 @@ use Rattle.chains.specs.Statements.{Once}
 use Rattle.chains.proofs.BoardKept.{becomes_then}
 use Rattle.placing.specs.OnBoard.{PutOn}
 use Rattle.placing.specs.Putting.{Placed, placed}
-use Rattle.placing.specs.Steps.{Step, all_named}
+use Rattle.placing.specs.Steps.{all_named}
 use Rattle.chains.specs.declared.shapes.Shape.{Shape}
 use Rattle.balance.specs.Evening.{even_out}
 use Rattle.balance.specs.OnBoard.{RoomForTwo}
 use Rattle.changes.specs.declared.change.Change.{Change}
-use Rattle.changes.specs.declared.change.Change.TheVariants.{Add, Drop, GetRoom, GiveRoomUp}
-use Rattle.changes.specs.declared.changed.Changed.{Changed}
 use Rattle.changes.specs.Days.{Day, moved, number_moved, numbered, rounds_of}
-use Rattle.changes.specs.Making.{Made, after, again_steps, made_again, noted, put_each, put_each_steps, start_of, waiting}
+use Rattle.changes.specs.Making.{after, again_steps, made_again, noted, put_each, start_of, waiting}
 use Rattle.changes.specs.MakingOn.{AfterChange, BeforeChange, grown}
-use Rattle.changes.specs.Numbered.{Numbered, can, changed, list_after, rounds_for}
+use Rattle.changes.specs.Numbered.{Numbered, can, changed, rounds_for}
 use Rattle.changes.specs.OnBoard.{Noted, Notes, TakesRest, Touches, newcomer, steps_again}
 use Rattle.changes.specs.Told.{told_of}
-use Rattle.changes.proofs.AfterMaking.{dropped_agree, many_then, moved_counted, noted_then, touched_below, touched_once}
+use Rattle.changes.proofs.AfterMaking.{dropped_agree, moved_counted, noted_then, touched_below, touched_once}
 use Rattle.changes.proofs.BeforeMaking.{drop_there}
-use Rattle.changes.proofs.CanMake.{can_put, many_is, start_is, start_then, waiting_is}
+use Rattle.changes.proofs.CanMake.{start_is, start_then, waiting_is}
 use Rattle.changes.proofs.NextDay.{next_stands}
 use Rattle.changes.proofs.Noted.{Dropped}
 

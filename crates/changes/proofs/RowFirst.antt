@@ -1,29 +1,25 @@
 -- Before the first change of a row: the lent rounds hold the plan of the list, and none for the meetings that are to come. Assumes
 -- nothing.
-use Rattle.std.proofs.Common.{◌≡◌, ℕ, ◌+◌, ◌-◌, ◌<◌, ◌≤◌, true, eqb, max, List, [], ◌∷◌, ◌++◌, length, get_or, replicate, take, vec_items, sym, refl, ap, ◌∙◌, subst, ⊎_elim, arith}
-use Rattle.std.proofs.lemmas.Bool.{cases_lt, eqb-true, ne_eqb}
-use Rattle.std.proofs.lemmas.List.{get_or-append_right, get_or-replicate, get_or_append_left, get_or_past, length-append, length-replicate, length-take-le, take_at}
-use Rattle.std.proofs.lemmas.List.Sums.{sum_by-append, sum_by-cons}
-use Rattle.meetings.specs.declared.numbers.Meeting.{Meeting}
+use Rattle.std.proofs.Common.{◌≡◌, ℕ, ◌-◌, ◌<◌, ◌≤◌, true, eqb, List, ◌++◌, length, get_or, replicate, take, vec_items, sym, refl, ap, ◌∙◌, subst, ⊎_elim, arith}
+use Rattle.std.proofs.lemmas.Bool.{cases_lt, ne_eqb}
+use Rattle.std.proofs.lemmas.List.{get_or-append_right, get_or-replicate, get_or_append_left, get_or_past, length-replicate, length-take-le, take_at}
+use Rattle.std.proofs.lemmas.List.Sums.{sum_by-append}
 use Rattle.meetings.specs.Held.{contents}
 use Rattle.meetings.specs.Lists.{Contents, Proper}
 use Rattle.meetings.proofs.Holds.{proper}
 use Rattle.fewest.specs.Plans.{none, in_round}
-use Rattle.fewest.specs.Rounds.{fewest, largest}
 use Rattle.fewest.specs.Counting.{one_if}
 use Rattle.fewest.proofs.Counting.{count_none, count_places}
 use Rattle.fewest.proofs.Numbers.{largest_above}
 use Rattle.chains.specs.declared.shapes.Shape.{Shape}
 use Rattle.chains.specs.Partial.{round_of}
-use Rattle.chains.specs.Rows.{ManyWithin}
 use Rattle.balance.specs.Sizes.{sizes_of}
 use Rattle.balance.proofs.Counted.{are_sizes, size_at, sizes_long}
-use Rattle.changes.specs.declared.change.Change.{Change}
 use Rattle.changes.specs.declared.kept.Kept.{Kept}
 use Rattle.changes.specs.declared.row.Row.{Row}
-use Rattle.changes.specs.Days.{Day, Stands, first_day, numbered, rounds_of}
+use Rattle.changes.specs.Days.{first_day}
 use Rattle.changes.specs.Keeping.{Beside, Room}
-use Rattle.changes.specs.Numbered.{Numbered, changed, whole}
+use Rattle.changes.specs.Numbered.{whole}
 use Rattle.changes.specs.RowOn.{CanMakeFirst, CanMakeRow, day_before, most_rounds}
 use Rattle.changes.specs.Rows.{CanAll, made_all, rounds_after}
 use Rattle.changes.proofs.FirstDay.{first_numbered, first_rounds, first_stands}

@@ -13,13 +13,12 @@ use Rattle.chains.specs.Partial.{round_of}
 use Rattle.chains.specs.Rows.{Beyond, Holds, ManyWithin}
 use Rattle.chains.proofs.BoardGrown.{board_grown}
 use Rattle.balance.specs.Lent.{BoardLent}
-use Rattle.balance.specs.Sizes.{sizes_of}
 use Rattle.balance.proofs.Counted.{are_sizes, size_at, sizes_long}
 use Rattle.changes.specs.declared.change.Change.{Change}
 use Rattle.changes.specs.declared.change.Change.TheVariants.{Add, Drop, GetRoom, GiveRoomUp}
 use Rattle.changes.specs.declared.changed.Changed.{Changed}
 use Rattle.changes.specs.declared.kept.Kept.{Kept}
-use Rattle.changes.specs.Days.{Day, Stands, numbered, rounds_of}
+use Rattle.changes.specs.Days.{Day, Stands, numbered}
 use Rattle.changes.specs.Keeping.{Beside}
 use Rattle.changes.specs.Making.{after}
 use Rattle.changes.specs.MakingOn.{AfterChange, BeforeChange, grown}
@@ -27,7 +26,7 @@ use Rattle.changes.specs.Numbered.{Numbered, can, changed, list_after, rounds_fo
 use Rattle.changes.specs.RowOn.{CanMakeRow, added}
 use Rattle.changes.specs.Rows.{CanAll, made_all, rounds_after}
 use Rattle.changes.specs.Statements.{ChangeStands}
-use Rattle.changes.specs.Told.{last_day, told, told_of}
+use Rattle.changes.specs.Told.{last_day, told}
 use Rattle.changes.proofs.NextDay.{next_stands, proper_then}
 use Rattle.changes.proofs.Noted.{meetings_kept}
 use Rattle.changes.proofs.ProperAfter.{groups_kept, stations_kept}

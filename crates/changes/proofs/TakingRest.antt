@@ -1,6 +1,6 @@
 -- Whoever is in a round that is no more goes: the rounds are those that the rule leaves, and their sizes are the old ones below the
 -- number of rounds, and 0 from there on. Assumes nothing.
-use Rattle.std.proofs.Common.{◌≡◌, ℕ, ◌+◌, ◌-◌, ◌<◌, ◌≤◌, Bool, true, false, cond, ◌&&◌, ◌||◌, eqb, leb, ltb, ◌⊎◌, List, [], ◌∷◌, ◌++◌, length, get_or, take, drop, map, replicate, count_by, sym, refl, ap, ◌∙◌, subst, ⊎_elim, arith}
+use Rattle.std.proofs.Common.{◌≡◌, ℕ, ◌+◌, ◌-◌, ◌<◌, ◌≤◌, Bool, false, cond, ◌&&◌, ◌||◌, eqb, leb, ltb, ◌⊎◌, List, [], ◌∷◌, ◌++◌, length, get_or, take, drop, replicate, sym, refl, ap, ◌∙◌, ⊎_elim, arith}
 use Rattle.std.proofs.lemmas.Bool.{cases_lt, ne_eqb}
 use Rattle.std.proofs.lemmas.Bool.Decides.{nat_tests}
 use Rattle.std.proofs.lemmas.List.{ext_get_or, get_or_append_left, get_or-append_right, get_or-drop, get_or-replicate, get_or-take, length-append, length-drop, length-map, length-replicate, length-take-le}
@@ -12,7 +12,7 @@ use Rattle.fewest.specs.Counting.{one_if}
 use Rattle.fewest.specs.Plans.{none, in_round}
 use Rattle.fewest.proofs.Counting.{count_none, count_places}
 use Rattle.chains.specs.declared.board.Board.{Board}
-use Rattle.chains.specs.Boards.{Becomes, meetings_on, rounds_on}
+use Rattle.chains.specs.Boards.{meetings_on, rounds_on}
 use Rattle.chains.specs.Chains.{holds}
 use Rattle.chains.specs.Partial.{Partial, round_of}
 use Rattle.chains.proofs.BoardKept.{becomes_also, becomes_same}

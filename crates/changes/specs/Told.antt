@@ -1,11 +1,13 @@
 -- What a row of changes answers, and what it leaves. Definitions; assumes nothing.
 use Rattle.std.specs.Prelude.{◌≡◌, ℕ, max, List, [], ◌∷◌, ◌++◌, length, drop, take}
+use Rattle.meetings.specs.Bytes.{read_list}
 use Rattle.meetings.specs.Lists.{Contents}
 use Rattle.meetings.specs.Refusals.{Outcome, accepted, then}
 use Rattle.fewest.specs.Rounds.{fewest, largest}
 use Rattle.chains.specs.Shapes.{lent_shape, shape_of}
 use Rattle.balance.specs.Lent.{BoardLent}
 use Rattle.changes.specs.declared.change.Change.{Change}
+use Rattle.changes.specs.Bytes.{read_row}
 use Rattle.changes.specs.declared.changed.Changed.{Changed}
 use Rattle.changes.specs.Days.{Day, Stands, first_day, number_moved, rounds_of}
 use Rattle.changes.specs.Making.{Made, after}
@@ -54,3 +56,8 @@ pub record RowPromised (d : Contents) (cs : List Change) (ts : List Changed) (xs
   pub last : Day
   pub each : Promised (first_day d) cs ts last
   pub rounds : take (length last.list.meetings) xs ≡ last.at
+
+-- what holds of the list and the row that these bytes say, if they say one
+abbrev pub OfRow : List ℕ → List ℕ → (Contents → List Change → Type 0) → Type 0
+OfRow day changes P =
+    (d : Contents) (cs : List Change) → read_list day ≡ accepted d → read_row (whole d) changes ≡ accepted cs → P d cs

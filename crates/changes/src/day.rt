@@ -5,19 +5,22 @@ ghost use Rattle.meetings.specs.declared.refusal.Refusal.TheVariants.{Memory};
 ghost use Rattle.meetings.specs.Held.{contents};
 ghost use Rattle.meetings.specs.Refusals.{Answers, outcome, then};
 ghost use Rattle.balance.specs.Lent.{PlannedLent, Unchanged};
+ghost use Rattle.changes.specs.Bytes.{read_row};
+ghost use Rattle.changes.specs.Numbered.{whole};
 ghost use Rattle.changes.specs.RowOn.{LongEnough, shape_of_row};
-ghost use Rattle.changes.specs.Told.{ChangedLent, answer_of, RowPromised};
+ghost use Rattle.changes.specs.Told.{ChangedLent, OfRow, RowPromised, answer_of};
 
 use crate::change::Change;
 use crate::changed::Changed;
 use crate::kept::Kept;
+use crate::reading::read_changes;
 use crate::row::Row;
 use crate::rows::make_row;
 use crate::testing::test;
 use balance::{Planned, plan};
 use chains::Shape;
 use fewest::{fewest_rounds, largest_of};
-use meetings::{Lent, MeetingList, Refusal};
+use meetings::{Lent, MeetingList, Refusal, read};
 use std::alloc::Global;
 
 // The shape of a board over lent slices of these lengths, for so many meetings and rounds. A slice that is too short is refused.
@@ -114,4 +117,23 @@ pub fn change_day(
     ensures promised { IfOk result (λ ts. RowPromised (contents list.now) changes.now ts.items rounds.new) }
 {
     change_by_rule(heap, list, changes, rounds, group_rows, station_rows)
+}
+
+// The same of a list and a row of changes that bytes say: a list that breaks a rule is refused first, as reading does, then the row,
+// as reading it does, and then as `change_day` does.
+pub fn change_bytes(
+    heap: Global,
+    day: &[u8],
+    changes: &[u8],
+    rounds: &mut [u16],
+    group_rows: &mut [u16],
+    station_rows: &mut [u16],
+) -> Result<Vec<Changed>, Refusal>
+    ensures answer { Answers vec_items result (then (read_list day.now) (λ d. then (read_row (whole d) changes.now) (λ cs. answer_of d cs (length rounds.old) (length group_rows.old) (length station_rows.old)))) }
+    ensures lent { MatchResult result (λ _. OfRow day.now changes.now (λ d cs. ChangedLent d cs rounds.old rounds.new group_rows.old group_rows.new station_rows.old station_rows.new)) (λ _. Unchanged rounds.old rounds.new group_rows.old group_rows.new station_rows.old station_rows.new) }
+    ensures promised { IfOk result (λ ts. OfRow day.now changes.now (λ d cs. RowPromised d cs ts.items rounds.new)) }
+{
+    let list = read(heap, day)?;
+    let changes = read_changes(heap, &list, changes)?;
+    change_day(heap, &list, &changes, rounds, group_rows, station_rows)
 }

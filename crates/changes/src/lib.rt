@@ -23,7 +23,7 @@ mod writing;
 
 pub use change::Change;
 pub use changed::Changed;
-pub use day::change_day;
+pub use day::{change_bytes, change_day};
 pub use reading::read_changes;
 pub use theorems::{
     accepted_rows_can_be_made, change_leaves_a_day_that_stands, every_row_leaves_days_that_stand,

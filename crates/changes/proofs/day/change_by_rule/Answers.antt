@@ -1,5 +1,5 @@
 -- The row was tested and the slices are long enough; then the list is planned, and the changes are made.
-use Rattle.std.proofs.Common.{rules, ◌≡◌, ◌-◌, ◌≤◌, length, take, sym, ap, ◌∙◌, vec_items, arith}
+use Rattle.std.proofs.Common.{rules, ◌-◌, length, ap, ◌∙◌, arith}
 use Rattle.std.proofs.lemmas.List.{length-take-le}
 use Rattle.meetings.specs.Held.{contents}
 use Rattle.meetings.proofs.Holds.{proper}

@@ -1,5 +1,5 @@
 -- Each turn makes one change over the first of the lent rounds.
-use Rattle.std.proofs.Common.{◌<◌, ◌≤◌, ◌∙◌, length, arith}
+use Rattle.std.proofs.Common.{◌∙◌, arith}
 use Rattle.std.proofs.lemmas.List.{at_drop_more}
 use Rattle.changes.proofs.RowTurns.{row_made, turn_made, turn_ready}
 use Rattle.changes.proofs.rows.make_each.Goals as goal

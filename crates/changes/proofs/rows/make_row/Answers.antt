@@ -1,9 +1,8 @@
 -- The lent rounds are those of the first day, and then the changes are made.
-use Rattle.std.proofs.Common.{◌≡◌, ◌-◌, ◌≤◌, ◌++◌, length, replicate, take, ap, ◌∙◌, subst, sym, vec_items, arith}
+use Rattle.std.proofs.Common.{◌≡◌, ◌-◌, ◌++◌, length, replicate, take, ap, ◌∙◌, subst, arith}
 use Rattle.meetings.specs.Held.{contents}
 use Rattle.fewest.specs.Plans.{none}
 use Rattle.balance.specs.Sizes.{sizes_of}
-use Rattle.changes.specs.Keeping.{Beside}
 use Rattle.changes.specs.RowOn.{most_rounds}
 use Rattle.changes.proofs.RowFirst.{beside_first, each_below, few_meetings, few_rounds, row_ready}
 use Rattle.changes.proofs.rows.make_row.Goals as goal
