@@ -1,8 +1,16 @@
 // Making a row of changes.
+ghost use Rattle.std.specs.Prelude.{◌≡◌, ◌≤◌, length};
+ghost use Rattle.fewest.specs.Plans.{none};
+ghost use Rattle.chains.specs.Rows.{Holds};
+ghost use Rattle.balance.specs.Lent.{BoardLent};
+ghost use Rattle.changes.specs.Days.{Day};
+ghost use Rattle.changes.specs.Keeping.{Beside};
+ghost use Rattle.changes.specs.MakingOn.{AfterChange, BeforeChange};
+
 use crate::change::Change;
 use crate::changed::Changed;
 use crate::kept::Kept;
-use crate::making::make;
+use crate::making::{Turn, make};
 use crate::tested::Tested;
 use crate::testing::test;
 use balance::{count_rounds, plan};
@@ -18,11 +26,20 @@ fn make_lent(
     rounds: &mut [u16],
     group_rows: &mut [u16],
     station_rows: &mut [u16],
-    change: Change,
-    from: u16,
-    to: u16,
+    turn: Turn,
     kept: &mut Kept,
-) -> Changed {
+) -> Changed
+    requires before { (d : Day) × BeforeChange d turn.change meetings.now shape rounds.old turn.from turn.to }
+    requires held { Holds meetings.now shape rounds.old group_rows.old station_rows.old }
+    requires beside { Beside shape rounds.old kept.old (length kept.old.before.items) (length kept.old.sizes.items) }
+    requires long { length meetings.now ≤ length kept.old.before.items }
+    requires from { turn.from ≤ length kept.old.sizes.items }
+    requires to { turn.to ≤ length kept.old.sizes.items }
+    requires few { length kept.old.sizes.items ≤ none }
+    ensures made { (d : Day) → BeforeChange d turn.change meetings.now shape rounds.old turn.from turn.to → AfterChange d turn.change rounds.new result }
+    ensures rows { BoardLent meetings.now shape rounds.new group_rows.old group_rows.new station_rows.old station_rows.new }
+    ensures beside { Beside shape rounds.new kept.new (length kept.old.before.items) (length kept.old.sizes.items) }
+{
     let mut board = Board {
         meetings,
         shape,
@@ -30,7 +47,7 @@ fn make_lent(
         group_rows,
         station_rows,
     };
-    make(&mut board, change, from, to, kept)
+    make(&mut board, turn, kept)
 }
 
 // Makes the changes one after the other.
