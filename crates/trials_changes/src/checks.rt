@@ -72,6 +72,20 @@ pub(crate) fn stands(heap: Global, day: &Day, rounds: &[u16]) -> Result<bool, Al
     )
 }
 
+// What the rule makes of a row of changes, and what is told of each.
+pub(crate) fn ruled(
+    heap: Global,
+    list: &MeetingList,
+    changes: &[Change],
+) -> Result<(Day, Vec<Changed>), AllocError> {
+    let mut day = Day::of(heap, list)?;
+    let mut told = Vec::new(heap);
+    for change in changes {
+        told.push(day.change(heap, *change)?)?;
+    }
+    Ok((day, told))
+}
+
 // A row of changes makes this day, and is told of so. Answers the lent slices.
 pub(crate) fn check_row(
     rt: &impl Abort,

@@ -60,11 +60,16 @@ fn rows(
     parties: u16,
     length: usize,
 ) -> Result<Vec<u16>, AllocError> {
-    let width = u16::try_from(length / usize::from(parties.max(1))).unwrap_or(NONE);
-    (0..parties)
-        .flat_map(|party| (0..width).map(move |round| day.met(side, party, round)))
-        .map(|met| met.map_or(NONE, |numbered| numbered.number))
-        .collect(heap)
+    let width = length / usize::from(parties.max(1));
+    let mut rows = vec![in heap; NONE; width.saturating_mul(usize::from(parties))]?;
+    for one in &day.numbered {
+        let start = usize::from(one.meeting.party(side)).saturating_mul(width);
+        let place = rows.get_mut(start.saturating_add(usize::from(one.round)));
+        if let (true, Some(entry)) = (one.round != NONE, place) {
+            *entry = one.number;
+        }
+    }
+    Ok(rows)
 }
 
 impl Slices {

@@ -1,7 +1,9 @@
-// Tests of changing a day: worked changes, refusals, the limits, random rows beside the rule written once more, and a long row on
-// a full day.
+// Tests of changing a day: worked changes, refusals, bytes, the limits, random rows beside the rule written once more, and a long
+// row on a full day.
 #![tactic(auto)]
 
+#[cfg(test)]
+mod bytes;
 #[cfg(test)]
 mod checks;
 #[cfg(test)]

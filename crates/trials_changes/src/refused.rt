@@ -1,6 +1,5 @@
 // What is refused, at its place, and in which order; and slices that are just long enough.
-use crate::checks::{add, check_row, drop_one, list_of};
-use crate::day::Day;
+use crate::checks::{add, check_row, drop_one, list_of, ruled};
 use crate::lent::{Lengths, Slices};
 use changes::Change;
 use changes::Change::{GetRoom, GiveRoomUp};
@@ -107,11 +106,7 @@ fn slices_that_are_too_short(rt: HostRuntime) -> Result<(), Fail> {
         for (lengths, place) in short {
             check_refused(&rt, heap, &list, changes, lengths, (5, place))?;
         }
-        let mut day = Day::of(heap, &list)?;
-        let mut told = Vec::new(heap);
-        for change in changes {
-            told.push(day.change(heap, *change)?)?;
-        }
+        let (day, told) = ruled(heap, &list, changes)?;
         // what lies beyond stays as it was
         for lengths in [enough, Lengths::new(10, 47, 31)] {
             check_row(&rt, heap, &list, changes, lengths, &day, &told)?;

@@ -1,6 +1,6 @@
 // Worked changes: the rounds, the looks and how many were moved follow from the rule by hand.
-use crate::checks::{add, check_row, drop_one, list_of};
-use crate::day::{Day, NONE};
+use crate::checks::{add, check_row, drop_one, list_of, ruled};
+use crate::day::NONE;
 use crate::lent::Lengths;
 use changes::Change::{GetRoom, GiveRoomUp};
 use changes::{Change, Changed};
@@ -29,10 +29,7 @@ fn check_case(rt: &impl Abort, heap: Global, case: Case<'_>) -> Result<(), Fail>
             moved: *moved,
         })
         .collect::<Vec<_>>(heap)?;
-    let mut day = Day::of(heap, &list)?;
-    for change in changes {
-        day.change(heap, *change)?;
-    }
+    let (day, _) = ruled(heap, &list, changes)?;
     // 12 rounds are enough for each of them
     let lengths = Lengths::just_enough(&list, rounds.len(), 12);
     let lent = check_row(rt, heap, &list, changes, lengths, &day, &told)?;
