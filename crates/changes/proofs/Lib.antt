@@ -21,6 +21,8 @@ pub mod PuttingEach
 pub mod PuttingTurns
 pub mod ReadTurns
 pub mod RowAccepted
+pub mod RowParts
+pub mod RowTurns
 pub mod RowWritten
 pub mod SizesKept
 pub mod Sorting

@@ -7,6 +7,7 @@ pub mod MakingOn
 pub mod Numbered
 pub mod OnBoard
 pub mod Registered
+pub mod RowOn
 pub mod Rows
 pub mod Statements
 pub mod Tested

@@ -36,9 +36,9 @@ answer_of d cs long_rounds long_groups long_stations =
     accepted (told (first_day d) cs)))
 
 -- what the lent slices hold after it: the rounds of the last day and the rows of these, and what lies beyond is as it was
-pub record ChangedLent (d : Contents) (e : Day) (xs xs' gs gs' ss ss' : List ℕ) : Type 0 where
-  pub rounds : xs' ≡ e.at ++ drop (length e.at) xs
-  pub rows : BoardLent e.list.meetings (shape_of d (length gs) (length ss)) e.at gs gs' ss ss'
+pub record ChangedLent (d : Contents) (cs : List Change) (xs xs' gs gs' ss ss' : List ℕ) : Type 0 where
+  pub rounds : xs' ≡ (last_day (first_day d) cs).at ++ drop (length (last_day (first_day d) cs).list.meetings) xs
+  pub rows : BoardLent (last_day (first_day d) cs).list.meetings (shape_of d (length gs) (length ss)) (last_day (first_day d) cs).at gs gs' ss ss'
 
 -- WHAT A ROW PROMISES, where so much is told of it: each change leaves what it should of the day before, that is told, and the last
 -- day is e

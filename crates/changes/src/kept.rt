@@ -1,8 +1,12 @@
 // What is kept beside the board from one change to the next.
-ghost use Rattle.std.specs.Prelude.{◌≤◌, length};
+ghost use Rattle.std.specs.Prelude.{◌≡◌, ℕ, ◌≤◌, length};
 ghost use Rattle.meetings.specs.Refusals.{IfMemory};
-ghost use Rattle.changes.specs.Keeping.{Blank};
+ghost use Rattle.fewest.specs.Plans.{none};
+ghost use Rattle.chains.specs.declared.shapes.Shape.{Shape};
+ghost use Rattle.balance.specs.Sizes.{sizes_of};
+ghost use Rattle.changes.specs.Keeping.{Blank, Room};
 
+use balance::count_rounds;
 use chains::{Found, NONE, Shape};
 use meetings::{Refusal, Side};
 use std::alloc::Global;
@@ -37,5 +41,17 @@ impl Kept {
             found: Found::none(heap, meetings)?,
             touched: Found::none(heap, meetings)?,
         })
+    }
+
+    // Beside a board with these rounds.
+    pub(crate) fn begin(&mut self, rounds: &[u16])
+        requires each { length rounds.now ≡ length self.old.before.items }
+        requires few { length rounds.now ≤ none }
+        ensures sizes { self.new.sizes.items ≡ sizes_of (length self.old.sizes.items) rounds.now }
+        ensures before { self.new.before.items ≡ rounds.now }
+        ensures room { (z : Shape) (m r : ℕ) → Room self.old z m r → Room self.new z m r }
+    {
+        count_rounds(rounds, &mut self.sizes);
+        self.before.copy_from_slice(rounds);
     }
 }

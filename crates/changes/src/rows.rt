@@ -1,23 +1,22 @@
 // Making a row of changes.
-ghost use Rattle.std.specs.Prelude.{◌≡◌, ◌≤◌, length};
+ghost use Rattle.std.specs.Prelude.{◌≡◌, ℕ, ◌+◌, ◌-◌, ◌<◌, ◌≤◌, ◌++◌, length, replicate, slice_index, take, vec_capacity};
+ghost use Rattle.meetings.specs.Held.{contents};
 ghost use Rattle.fewest.specs.Plans.{none};
 ghost use Rattle.chains.specs.Rows.{Holds};
 ghost use Rattle.balance.specs.Lent.{BoardLent};
-ghost use Rattle.changes.specs.Days.{Day};
-ghost use Rattle.changes.specs.Keeping.{Beside};
+ghost use Rattle.changes.specs.Days.{Day, first_day};
+ghost use Rattle.changes.specs.Keeping.{Beside, Blank};
 ghost use Rattle.changes.specs.MakingOn.{AfterChange, BeforeChange};
+ghost use Rattle.changes.specs.RowOn.{CanMakeFirst, CanMakeRow, added, day_before, most_rounds};
+ghost use Rattle.changes.specs.Told.{last_day, told};
 
 use crate::change::Change;
 use crate::changed::Changed;
 use crate::kept::Kept;
 use crate::making::{Turn, make};
-use crate::tested::Tested;
-use crate::testing::test;
-use balance::{count_rounds, plan};
+use crate::row::Row;
 use chains::{Board, NONE, Shape};
-use fewest::{fewest_rounds, largest_of};
-use meetings::{Lent, Meeting, MeetingList, Refusal};
-use std::alloc::Global;
+use meetings::Meeting;
 
 // Makes a change over lent slices that are a board.
 fn make_lent(
@@ -50,63 +49,98 @@ fn make_lent(
     make(&mut board, turn, kept)
 }
 
-// Makes the changes one after the other.
+// How many meetings have a number after a change.
+fn many_after(many: usize, change: Change) -> usize
+    requires { many ≤ none }
+    ensures { result ≡ many + added change }
+{
+    match change {
+        Change::Add(_) => many + 1,
+        Change::Drop(_) | Change::GiveRoomUp | Change::GetRoom => many,
+    }
+}
+
+// Makes the changes of a row one after the other.
 fn make_each(
-    tested: &Tested,
-    first: usize,
+    row: &Row<'_>,
     shape: Shape,
     rounds: &mut [u16],
     group_rows: &mut [u16],
     station_rows: &mut [u16],
-    changes: &[Change],
-    first_rounds: u16,
     kept: &mut Kept,
-    told: &mut Vec<Changed>,
-) {
-    let mut many = first;
-    let mut from = first_rounds;
-    for (at, change) in changes.iter().enumerate() {
-        if let Change::Add(_) = change {
-            many += 1;
-        }
-        let to = tested.rounds[at];
-        told.push_reserved(make_lent(
-            &tested.meetings[0..many],
+    answers: &mut Vec<Changed>,
+)
+    requires row { CanMakeRow (day_before row.now rounds.old) row.now.changes.now row.now.tested.meetings.items row.now.tested.rounds.items shape rounds.old row.now.rounds }
+    requires held { Holds (contents row.now.list.now).meetings shape (day_before row.now rounds.old).at group_rows.old station_rows.old }
+    requires beside { Beside shape (day_before row.now rounds.old).at kept.old (length kept.old.before.items) (length kept.old.sizes.items) }
+    requires long { length row.now.tested.meetings.items ≤ length kept.old.before.items }
+    requires from { row.now.rounds ≤ length kept.old.sizes.items }
+    requires to { (i : ℕ) → i < length row.now.tested.rounds.items → slice_index row.now.tested.rounds.items i ≤ length kept.old.sizes.items }
+    requires few { length kept.old.sizes.items ≤ none }
+    requires room { length answers.old.items + length row.now.changes.now ≤ vec_capacity answers.old }
+    ensures rounds { rounds.new ≡ (last_day (day_before row.now rounds.old) row.now.changes.now).at }
+    ensures told { answers.new.items ≡ answers.old.items ++ told (day_before row.now rounds.old) row.now.changes.now }
+    ensures rows { BoardLent row.now.tested.meetings.items shape rounds.new group_rows.old group_rows.new station_rows.old station_rows.new }
+{
+    let mut many = row.list.meetings().len();
+    let mut from = row.rounds;
+    for (at, change) in row.changes.iter().enumerate() {
+        many = many_after(many, *change);
+        let to = row.tested.rounds[at];
+        let turn = Turn {
+            change: *change,
+            from,
+            to,
+        };
+        answers.push_reserved(make_lent(
+            &row.tested.meetings[0..many],
             shape,
             &mut rounds[0..many],
             group_rows,
             station_rows,
-            *change,
-            from,
-            to,
+            turn,
             kept,
         ));
         from = to;
     }
 }
 
-// Plans a day and makes the changes.
-pub fn change_day(
-    heap: Global,
-    list: &MeetingList,
-    changes: &[Change],
+// No rounds from the first of these on.
+fn clear_from(rounds: &mut [u16], first: usize)
+    requires { first ≤ length rounds.old }
+    ensures { rounds.new ≡ take first rounds.old ++ replicate (length rounds.old - first) none }
+{
+    rounds[first..].fill(NONE);
+}
+
+// Makes the changes of a row over lent slices that hold the plan of its list.
+pub(crate) fn make_row(
+    row: &Row<'_>,
+    shape: Shape,
     rounds: &mut [u16],
     group_rows: &mut [u16],
     station_rows: &mut [u16],
-) -> Result<Vec<Changed>, Refusal> {
-    let tested = test(heap, list, changes)?;
-    let most = largest_of(&tested.rounds).max(fewest_rounds(heap, list)?);
-    if rounds.len() < tested.meetings.len() {
-        return Err(Refusal::ShortSlice(Lent::Rounds));
-    }
-    let shape = Shape::of_lent(list, most, rounds.len(), group_rows.len(), station_rows.len())?;
-    let mut kept = Kept::blank(heap, shape, tested.meetings.len(), most)?;
-    let mut told = Vec::with_capacity(heap, changes.len())?;
-    let planned = plan(heap, list, rounds, group_rows, station_rows)?;
-    let first = list.meetings().len();
-    rounds[first..tested.meetings.len()].fill(NONE);
-    count_rounds(&rounds[0..first], &mut kept.sizes);
-    kept.before[0..first].copy_from_slice(&rounds[0..first]);
-    make_each(&tested, first, shape, rounds, group_rows, station_rows, changes, planned.rounds, &mut kept, &mut told);
-    Ok(told)
+    kept: &mut Kept,
+    answers: &mut Vec<Changed>,
+)
+    requires row { CanMakeFirst row.now shape (length rounds.old) }
+    requires planned { take (length (contents row.now.list.now).meetings) rounds.old ≡ (first_day (contents row.now.list.now)).at }
+    requires held { Holds (contents row.now.list.now).meetings shape (first_day (contents row.now.list.now)).at group_rows.old station_rows.old }
+    requires blank { Blank kept.old shape (length rounds.old) (most_rounds row.now) }
+    requires room { length answers.old.items + length row.now.changes.now ≤ vec_capacity answers.old }
+    ensures rounds { rounds.new ≡ (last_day (first_day (contents row.now.list.now)) row.now.changes.now).at }
+    ensures told { answers.new.items ≡ answers.old.items ++ told (first_day (contents row.now.list.now)) row.now.changes.now }
+    ensures rows { BoardLent row.now.tested.meetings.items shape rounds.new group_rows.old group_rows.new station_rows.old station_rows.new }
+{
+    clear_from(rounds, row.list.meetings().len());
+    kept.begin(rounds);
+    make_each(
+        row,
+        shape,
+        rounds,
+        group_rows,
+        station_rows,
+        kept,
+        answers,
+    );
 }
