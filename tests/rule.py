@@ -1,9 +1,14 @@
 #!/usr/bin/env python3
 """The plan of a day by the rule, worked on the list of rounds alone: rule.py DAY prints it, with the number of looks.
 
-It shares nothing with the crates.
+rule.py [--looks] DAY CHANGES makes the changes after it, and prints what each comes to; with --looks also the looks of each, and
+the plan after the last. It shares nothing with the crates.
 """
 import sys
+
+
+class Refused(Exception):
+    pass
 
 
 def fewest(groups, stations, rooms, meetings):
@@ -77,20 +82,98 @@ def even_out(meetings, rounds, many):
     return looks
 
 
+class Day:
+    """All meetings that ever had a number, those that were dropped, and the round of each."""
+
+    def __init__(self, data):
+        self.groups, self.stations, self.rooms = data[:3]
+        self.meetings = [(data[i], data[i + 1]) for i in range(5, len(data), 2)]
+        self.dropped = set()
+        self.rounds = [None] * len(self.meetings)
+        self.looks = self.make()
+
+    def there(self):
+        return [i for i in range(len(self.meetings)) if i not in self.dropped]
+
+    def make(self):
+        """Puts in what has no round, evens out, and answers the looks."""
+        self.many = fewest(self.groups, self.stations, self.rooms, [self.meetings[i] for i in self.there()])
+        self.rounds = [round if round is not None and round < self.many else None for round in self.rounds]
+        waiting = [i for i in self.there() if self.rounds[i] is None]
+        looks = sum(put_in(self.meetings, self.rounds, self.many, i) for i in waiting)
+        return looks + even_out(self.meetings, self.rounds, self.many)
+
+    def note(self, kind, named, place):
+        """Notes one change, or refuses it by its place in the row."""
+        if kind == 0 and len(self.meetings) < 4000:
+            self.meetings.append(named)
+            self.rounds.append(None)
+        elif kind == 1 and named[0] + 256 * named[1] in self.there():
+            self.dropped.add(named[0] + 256 * named[1])
+            self.rounds[named[0] + 256 * named[1]] = None
+        elif kind == 2 and self.rooms > 1:
+            self.rooms -= 1
+        elif kind == 3 and self.rooms < 120:
+            self.rooms += 1
+        else:
+            raise Refused(6, place)
+
+    def change(self, kind, named, place):
+        """Makes one change. Answers the looks, and how many had a round before it and have another now."""
+        before = list(self.rounds)
+        self.note(kind, named, place)
+        looks = self.make()
+        return looks, sum(1 for x, y in zip(before, self.rounds) if None not in (x, y) and x != y)
+
+    def print_plan(self):
+        for c in range(self.many):
+            print(f"round {c} meetings {self.rounds.count(c)}")
+        for i, round in enumerate(self.rounds):
+            print(f"meeting {i} dropped" if round is None else f"meeting {i} round {round}")
+
+
+def changes_of(data, groups, stations):
+    """The changes that the bytes say, one by one: the kind, and the two bytes of what it names."""
+    at = 0
+    while at < len(data):
+        kind, at = data[at], at + 1
+        named = data[at:at + 2] if kind in (0, 1) else b""
+        if kind == 0:
+            for i, party in enumerate(named):
+                if party >= (groups, stations)[i]:
+                    raise Refused(4, at + i)
+        if kind in (0, 1) and len(named) < 2:
+            raise Refused(1, len(data))
+        yield kind, tuple(named)
+        at += len(named)
+
+
+def read(path):
+    with open(path, "rb") as file:
+        return file.read()
+
+
 def main():
-    with open(sys.argv[1], "rb") as day:
-        data = day.read()
-    groups, stations, rooms = data[:3]
-    meetings = [(data[i], data[i + 1]) for i in range(5, len(data), 2)]
-    many = fewest(groups, stations, rooms, meetings)
-    rounds = [None] * len(meetings)
-    looks = sum(put_in(meetings, rounds, many, i) for i in range(len(meetings)))
-    looks += even_out(meetings, rounds, many)
-    print(f"rounds {many} looks {looks}")
-    for c in range(many):
-        print(f"round {c} meetings {rounds.count(c)}")
-    for i, round in enumerate(rounds):
-        print(f"meeting {i} round {round}")
+    looks_too = "--looks" in sys.argv
+    day_path, *paths = [arg for arg in sys.argv[1:] if arg != "--looks"]
+    day = Day(read(day_path))
+    if not paths:
+        print(f"rounds {day.many} looks {day.looks}")
+        day.print_plan()
+        return
+    told = []
+    try:
+        for place, (kind, named) in enumerate(changes_of(read(paths[0]), day.groups, day.stations)):
+            looks, moved = day.change(kind, named, place)
+            told.append(f"rounds {day.many} moved {moved}" + (f" looks {looks}" if looks_too else ""))
+    except Refused as refused:
+        number, place = refused.args
+        print(f"refused {number} at {place}")
+        sys.exit(1)
+    for line in told:
+        print(line)
+    if looks_too:
+        day.print_plan()
 
 
 main()

@@ -1,0 +1,123 @@
+// The three slices that are lent, and what they hold before and after.
+use crate::day::{Day, NONE};
+use changes::{Change, Changed, change_day};
+use meetings::{MeetingList, Refusal, Side};
+use std::alloc::{AllocError, Global};
+
+// How long the slices are: rounds, rows of groups, rows of stations.
+#[derive(Clone, Copy)]
+pub(crate) struct Lengths {
+    pub(crate) rounds: usize,
+    pub(crate) group_rows: usize,
+    pub(crate) station_rows: usize,
+}
+
+impl Lengths {
+    // For tables, which are read by columns.
+    pub(crate) fn new(rounds: usize, group_rows: usize, station_rows: usize) -> Lengths {
+        Lengths {
+            rounds,
+            group_rows,
+            station_rows,
+        }
+    }
+
+    // For so many numbers and rounds of a list's parties, without an entry too many.
+    pub(crate) fn just_enough(list: &MeetingList, numbers: usize, rounds: u16) -> Lengths {
+        let many = usize::from(rounds);
+        Lengths {
+            rounds: numbers,
+            group_rows: many.saturating_mul(usize::from(list.groups())),
+            station_rows: many.saturating_mul(usize::from(list.stations())),
+        }
+    }
+}
+
+#[derive(PartialEq, Eq, Debug, Drop)]
+pub(crate) struct Slices {
+    pub(crate) rounds: Vec<u16>,
+    pub(crate) group_rows: Vec<u16>,
+    pub(crate) station_rows: Vec<u16>,
+}
+
+// So many entries, of which no two neighbours are alike, and none is a round or a meeting of a test.
+fn noise(heap: Global, length: usize) -> Result<Vec<u16>, AllocError> {
+    (60000..61000u16).cycle().take(length).collect(heap)
+}
+
+// What is written, and behind it what was there before.
+fn over(heap: Global, written: &[u16], length: usize) -> Result<Vec<u16>, AllocError> {
+    let before = noise(heap, length)?;
+    let behind = before.iter().skip(written.len());
+    written.iter().chain(behind).copied().collect(heap)
+}
+
+// The rows of one side in a slice: for each party and each round of its row the meeting that it has there.
+fn rows(
+    heap: Global,
+    day: &Day,
+    side: Side,
+    parties: u16,
+    length: usize,
+) -> Result<Vec<u16>, AllocError> {
+    let width = length / usize::from(parties.max(1));
+    let mut rows = vec![in heap; NONE; width.saturating_mul(usize::from(parties))]?;
+    for one in &day.numbered {
+        let start = usize::from(one.meeting.party(side)).saturating_mul(width);
+        let place = rows.get_mut(start.saturating_add(usize::from(one.round)));
+        if let (true, Some(entry)) = (one.round != NONE, place) {
+            *entry = one.number;
+        }
+    }
+    Ok(rows)
+}
+
+impl Slices {
+    // As they are lent.
+    pub(crate) fn new(heap: Global, lengths: Lengths) -> Result<Slices, AllocError> {
+        Ok(Slices {
+            rounds: noise(heap, lengths.rounds)?,
+            group_rows: noise(heap, lengths.group_rows)?,
+            station_rows: noise(heap, lengths.station_rows)?,
+        })
+    }
+
+    // As they should be after a row of changes that makes this day.
+    pub(crate) fn with(
+        heap: Global,
+        lengths: Lengths,
+        list: &MeetingList,
+        day: &Day,
+    ) -> Result<Slices, AllocError> {
+        let rounds = day.rounds(heap)?;
+        let group_rows = rows(heap, day, Side::Groups, list.groups(), lengths.group_rows)?;
+        let station_rows = rows(
+            heap,
+            day,
+            Side::Stations,
+            list.stations(),
+            lengths.station_rows,
+        )?;
+        Ok(Slices {
+            rounds: over(heap, &rounds, lengths.rounds)?,
+            group_rows: over(heap, &group_rows, lengths.group_rows)?,
+            station_rows: over(heap, &station_rows, lengths.station_rows)?,
+        })
+    }
+
+    pub(crate) fn change(
+        &mut self,
+        heap: Global,
+        list: &MeetingList,
+        changes: &[Change],
+    ) -> Result<Vec<Changed>, Refusal> {
+        change_day(
+            heap,
+            list,
+            changes,
+            &mut self.rounds,
+            &mut self.group_rows,
+            &mut self.station_rows,
+        )
+    }
+}

@@ -1,0 +1,24 @@
+// Tests of changing a day: worked changes, refusals, bytes, the limits, random rows beside the rule written once more, and a long
+// row on a full day.
+#![tactic(auto)]
+
+#[cfg(test)]
+mod bytes;
+#[cfg(test)]
+mod checks;
+#[cfg(test)]
+mod day;
+#[cfg(test)]
+mod lent;
+#[cfg(test)]
+mod limits;
+#[cfg(test)]
+mod long_row;
+#[cfg(test)]
+mod random_rows;
+#[cfg(test)]
+mod refused;
+#[cfg(test)]
+mod rule;
+#[cfg(test)]
+mod worked;

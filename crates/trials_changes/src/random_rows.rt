@@ -1,0 +1,142 @@
+// Random rows of changes on small days, beside the rule written once more.
+use crate::checks::{add, check_row, drop_one, list_of};
+use crate::day::{Day, moved};
+use crate::lent::Lengths;
+use changes::Change;
+use changes::Change::{GetRoom, GiveRoomUp};
+use meetings::{MeetingList, Side};
+use std::alloc::Global;
+use std::process::Abort;
+use std::test::Fail;
+use trials::Random;
+
+// How many groups and stations.
+#[derive(Clone, Copy)]
+struct Parties {
+    groups: u8,
+    stations: u8,
+}
+
+// A meeting for which no round more is asked, where one is soon found: chains are needed where many are as busy as the busiest.
+fn some_added(random: &mut Random, parties: Parties, day: &Day) -> Change {
+    let most = usize::from(day.many);
+    let mut pair = (0u16, 0u16);
+    'pairs: for _ in 0..6 {
+        let group = u16::from(random.below(parties.groups.max(1)));
+        let station = u16::from(random.below(parties.stations.max(1)));
+        pair = (group, station);
+        if day.held(Side::Groups, group) < most && day.held(Side::Stations, station) < most {
+            break 'pairs;
+        }
+    }
+    let (group, station) = pair;
+    add(group, station)
+}
+
+// One of the meetings that there are, if there is one.
+fn some_dropped(random: &mut Random, day: &Day) -> Option<Change> {
+    let start = usize::from(random.below(255));
+    day.numbered
+        .iter()
+        .cycle()
+        .skip(start)
+        .take(day.numbered.len())
+        .find(|one| one.there)
+        .map(|one| drop_one(one.number))
+}
+
+// A change that can be made.
+fn some_change(random: &mut Random, parties: Parties, day: &Day) -> Change {
+    let added = some_added(random, parties, day);
+    match random.below(8) {
+        0 | 1 | 2 => some_dropped(random, day).unwrap_or(added),
+        3 if day.rooms > 1 => GiveRoomUp,
+        4 if day.rooms < 120 => GetRoom,
+        _ => added,
+    }
+}
+
+// How many changes moved others, made the rounds more by more than one, and less; how many chains and parts of more than one
+// meeting were exchanged.
+#[derive(Debug, Drop)]
+struct Seen {
+    moved: u32,
+    rises: u32,
+    falls: u32,
+    chains: u32,
+    parts: u32,
+}
+
+// A row of changes: each of its beginnings is made from the start, and compared with the one before.
+fn check_beginnings(
+    rt: &impl Abort,
+    heap: Global,
+    random: &mut Random,
+    parties: Parties,
+    list: &MeetingList,
+    seen: &mut Seen,
+) -> Result<(), Fail> {
+    let mut day = Day::of(heap, list)?;
+    let mut changes = Vec::new(heap);
+    let mut told = Vec::new(heap);
+    let mut most = day.many;
+    let mut before = day.rounds(heap)?;
+    for _ in 0..60 {
+        let many = day.many;
+        let change = some_change(random, parties, &day);
+        let changed = day.change(heap, change)?;
+        changes.push(change)?;
+        told.push(changed)?;
+        most = most.max(changed.rounds);
+        let wide = most.saturating_add(u16::from(random.below(2)));
+        let lengths = Lengths::just_enough(list, day.numbered.len(), wide);
+        let lent = check_row(rt, heap, list, &changes, lengths, &day, &told)?;
+        assert_eq!(rt; moved(&before, &lent.rounds), changed.moved);
+        before = lent.rounds;
+        seen.moved = seen.moved.saturating_add(u32::from(changed.moved > 0));
+        seen.rises = seen
+            .rises
+            .saturating_add(u32::from(day.many > many.saturating_add(1)));
+        seen.falls = seen
+            .falls
+            .saturating_add(u32::from(many > day.many.saturating_add(1)));
+    }
+    seen.chains = seen.chains.saturating_add(day.chains);
+    seen.parts = seen.parts.saturating_add(day.parts);
+    Ok(())
+}
+
+// Rows of 60 changes. They begin with up to 15 meetings.
+#[test]
+fn random_rows_beside_the_rule(rt: HostRuntime) -> Result<(), Fail> {
+    let heap = rt.alloc();
+    let mut random = Random::new(55);
+    let mut seen = Seen {
+        moved: 0,
+        rises: 0,
+        falls: 0,
+        chains: 0,
+        parts: 0,
+    };
+    // groups, stations, rooms
+    for (groups, stations, rooms) in [
+        (4u8, 4u8, 4u8),
+        (5, 3, 2),
+        (3, 3, 20),
+        (4, 4, 20),
+        (8, 7, 1),
+    ] {
+        let parties = Parties { groups, stations };
+        let mut meetings = Vec::new(heap);
+        for _ in 0..random.below(16) {
+            meetings.push((random.below(groups.max(1)), random.below(stations.max(1))))?;
+        }
+        let list = list_of(heap, groups, stations, rooms, &meetings)?;
+        check_beginnings(&rt, heap, &mut random, parties, &list, &mut seen)?;
+    }
+    // else the rows would show little
+    assert!(rt; seen.moved > 100, "{seen:?}");
+    assert!(rt; seen.rises > 10 && seen.falls > 10, "{seen:?}");
+    assert!(rt; seen.chains > 30 && seen.parts > 30, "{seen:?}");
+    Ok(())
+}
