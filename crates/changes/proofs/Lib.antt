@@ -4,6 +4,7 @@ pub mod Keeping
 pub mod Leading
 pub mod Left
 pub mod LeftChanged
+pub mod LentEnough
 pub mod MovingTurns
 pub mod Named
 pub mod Noted
