@@ -12,7 +12,7 @@ use Rattle.balance.specs.OnBoard.{EvensOn}
 use Rattle.balance.specs.Sizes.{size, uneven}
 
 -- looks from before, and those of evening out
-abbrev with_looks : ℕ → Placed → Placed
+abbrev pub with_looks : ℕ → Placed → Placed
 with_looks n p = placed p.rounds (n + p.looks)
 
 added_if : (b : Bool) (n : ℕ) (p q p' q' : Placed) → p ≡ with_looks n p' → q ≡ with_looks n q' → cond b p q ≡ with_looks n (cond b p' q')
@@ -28,7 +28,7 @@ looks_added r ms (suc left) xs n m =
     added_if (uneven r (size xs)) n (exchanges r ms left (one_exchange r ms (placed xs (n + m)))) (placed xs (n + m)) (exchanges r ms left one) (placed xs m) later refl
 
 -- evening out goes on counting from the looks that there were
-even_out_looks : (r : ℕ) (ms : List Meeting) (p : Placed) → even_out r ms p ≡ with_looks p.looks (even_out r ms (placed p.rounds 0))
+pub even_out_looks : (r : ℕ) (ms : List Meeting) (p : Placed) → even_out r ms p ≡ with_looks p.looks (even_out r ms (placed p.rounds 0))
 even_out_looks r ms p = let none_more : p.looks ≡ p.looks + 0 = omega arith in ap (λ l. even_out r ms (placed p.rounds l)) none_more ∙ looks_added r ms _ p.rounds p.looks 0
 
 -- a whole plan is that of evening out, from no looks on, with those of putting in added

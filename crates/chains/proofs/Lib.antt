@@ -1,3 +1,4 @@
+pub mod BoardGrown
 pub mod BoardKept
 pub mod ChainTurns
 pub mod Closing

@@ -72,8 +72,8 @@ module _ (n : Register) (kept : Kept n) where
         record {
           is = is;
           kept = kept_as (changed v (Add m)) o is (proper_changed v kept.each (Add m) kept.proper may) (long_changed v kept.each (Add m))
-          (counts_more (left v) (left (changed v (Add m))) n.tally o.tally m apart kept.tally groups stations)
-          (many ∙ ap (λ x. x + 1) kept.many ∙ sym (length-append (left v).meetings (m ∷ [])) ∙ sym (ap length (left_added v kept.each m)));
+              (counts_more (left v) (left (changed v (Add m))) n.tally o.tally m apart kept.tally groups stations)
+              (many ∙ ap (λ x. x + 1) kept.many ∙ sym (length-append (left v).meetings (m ∷ [])) ∙ sym (ap length (left_added v kept.each m)));
         }
 
   -- a meeting that is there, read at its place
@@ -105,8 +105,8 @@ module _ (n : Register) (kept : Kept n) where
         record {
           is = same;
           kept = kept_as (changed v (Drop i)) o same (proper_changed v kept.each (Drop i) kept.proper may) (long_changed v kept.each (Drop i))
-          (counts_fewer (left (changed v (Drop i))) (left v) n.tally o.tally m apart kept.tally groups stations)
-          (omega (arith, many, kept.many, dropped_many v kept.each i may));
+              (counts_fewer (left (changed v (Drop i))) (left v) n.tally o.tally m apart kept.tally groups stations)
+              (omega (arith, many, kept.many, dropped_many v kept.each i may));
         }
 
   pub many_some : (i : MeetingId) → can (registered n) (Drop i) ≡ true → 1 ≤ n.many

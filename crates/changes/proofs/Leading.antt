@@ -11,7 +11,7 @@ use Rattle.chains.specs.Chains.{holds}
 use Rattle.chains.specs.Exchanges.{exchanged}
 use Rattle.chains.specs.Partial.{Partial, round_of}
 use Rattle.chains.proofs.Exchange.{exchanged_none, exchanged_stays}
-use Rattle.chains.proofs.Members.{first_held, unless}
+use Rattle.chains.proofs.Members.{append_cases, first_held, held_cases, none_held, unless}
 use Rattle.placing.specs.Putting.{Placed, placed, chain_for, common_free, own_free, put, put_by_chain}
 use Rattle.placing.specs.Statements.{Ready}
 use Rattle.placing.specs.Steps.{Leads, Step, all_named, chained, exchange, put_in, put_steps}
@@ -50,7 +50,7 @@ module _ (n k r : ℕ) (ms : List Meeting) (xs : List ℕ) (i : ℕ) (ready : Re
       let is = chain_for ms xs i a b in
       let found = chain_opens n k r ms xs i ready no_common in
       let frees = chain_frees n k ms xs i a b is ready.plan.each found.2 in
-      ((found.0, found.1, found.2.different, _, found.2.whole), ((found.0, exchanged_none a b is xs r i ready.rounds found.0 found.1 ready.out, λ s j h e p. frees s j h e p), refl))
+      ((found.0, found.1, found.2.different, _, found.2.whole), ((ready.here, found.0, exchanged_none a b is xs r i ready.rounds found.0 found.1 ready.out, λ s j h e p. frees s j h e p), refl))
 
   -- PUTTING IN ONE MEETING
   pub put_leads : Leads r ms (put_steps r ms xs i) xs (put r ms xs i).rounds
@@ -59,7 +59,7 @@ module _ (n k r : ℕ) (ms : List Meeting) (xs : List ℕ) (i : ℕ) (ready : Re
       let b = own_free r ms xs i Stations in
       let c = common_free r ms xs i in
       leads_if r ms (ltb c r) (put_in i c ∷ []) (exchange a b (chained r ms xs i) ∷ put_in i a ∷ []) xs (placed (set xs i c) 1) (put_by_chain ms xs i a b)
-      (λ common. let below = ltb-true c r common in ((below, ready.out, λ s j h e p. common_frees n k r ms xs i ready below s j h e p), refl))
+      (λ common. let below = ltb-true c r common in ((ready.here, below, ready.out, λ s j h e p. common_frees n k r ms xs i ready below s j h e p), refl))
       (λ no_common. subst (λ is. Leads r ms (exchange a b is ∷ put_in i a ∷ []) xs (put_by_chain ms xs i a b).rounds) (sym (cond-false (ltb c r) [] (chain_for ms xs i a b) no_common)) (by_chain (ltb-false c r no_common)))
 
 module _ (r : ℕ) (ms : List Meeting) (le : r ≤ none) (few : length ms ≤ none) where
@@ -141,3 +141,11 @@ puts_named n k r v xs i exist few le spared long waits w =
 
     now : round_of (made_again r v xs).rounds i < r
     now = (again_is n k r v exist few le spared xs waits long).has i was.0 was.1
+
+-- only meetings are named
+pub named_below : (r : ℕ) (ms : List Meeting) (ts : List Step) (xs ys : List ℕ) → Leads r ms ts xs ys → (i : ℕ) → holds (all_named ts) i ≡ true → i < length ms
+named_below r ms [] xs ys leads i h = absurd (none_held i h)
+named_below r ms (exchange a b is ∷ ts) xs ys leads i h =
+    ⊎_elim (λ here. (leads.0.4.within i here).0) (named_below r ms ts (exchanged a b is xs) ys leads.1 i) (append_cases is (all_named ts) i h)
+named_below r ms (put_in z c ∷ ts) xs ys leads i h =
+    ⊎_elim (λ this. omega (arith, leads.0.0, this)) (named_below r ms ts (set xs z c) ys leads.1 i) (held_cases z (all_named ts) i h)

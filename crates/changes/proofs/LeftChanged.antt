@@ -15,6 +15,7 @@ use Rattle.fewest.proofs.OneCounted.{OneApart, one_pushed}
 use Rattle.changes.specs.declared.change.Change.{Change}
 use Rattle.changes.specs.declared.change.Change.TheVariants.{Add, Drop, GetRoom, GiveRoomUp}
 use Rattle.changes.specs.Numbered.{Numbered, can, changed, left, those}
+use Rattle.changes.specs.Rows.{CanAll, made_all}
 
 module _ {A : Type 0} where
   -- a marked element at the end
@@ -143,3 +144,13 @@ module _ (v : Numbered) (long : length v.there ≡ length v.list.meetings) where
     exist = λ s. exist s i.0 (drop_here i h);
     each = λ s p. without_counted (λ m. eqb (party s m) p) v.there v.list.meetings nobody i.0 (those_without v.there v.list.meetings nobody i.0 long h);
   }
+
+-- the same after a row that can be made
+pub made_long : (v : Numbered) (cs : List Change) → length v.there ≡ length v.list.meetings → length (made_all v cs).there ≡ length (made_all v cs).list.meetings
+made_long v [] long = long
+made_long v (c ∷ cs) long = made_long (changed v c) cs (long_changed v long c)
+
+pub made_proper : (v : Numbered) (cs : List Change) → length v.there ≡ length v.list.meetings → Proper v.list → CanAll v cs → Proper (made_all v cs).list
+made_proper v [] long proper may = proper
+made_proper v (c ∷ cs) long proper may =
+    made_proper (changed v c) cs (long_changed v long c) (proper_changed v long c proper may.0) may.1

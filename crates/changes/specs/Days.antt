@@ -39,6 +39,10 @@ pub record Stands (d : Day) : Type 0 where
   pub even : Evened (rounds_of d) d.at
   pub no_fewer : LeastOfPlans (left (numbered d)) (rounds_of d)
 
+-- THE FIRST DAY of a proper list stands
+abbrev pub FirstDayStands : Type 0
+FirstDayStands = (d : Contents) → Proper d → Stands (first_day d)
+
 -- a meeting that had the round x, and has the round y now, was moved
 abbrev pub moved : ℕ → ℕ → Bool
 moved x y = (has_round x && has_round y) && not (x == y)

@@ -1,9 +1,7 @@
 -- What is kept beside the board from one change to the next. Assumes nothing.
 use Rattle.std.specs.Prelude.{◌≡◌, ℕ, ◌≤◌, List, length, replicate, vec_capacity, vec_items}
 use Rattle.fewest.specs.Plans.{none}
-use Rattle.chains.specs.declared.board.Board.{Board}
 use Rattle.chains.specs.declared.shapes.Shape.{Shape}
-use Rattle.chains.specs.Boards.{meetings_on, rounds_on}
 use Rattle.chains.specs.Finding.{Unused}
 use Rattle.chains.specs.Partial.{round_of}
 use Rattle.balance.specs.OnBoard.{RoomForTwo}
@@ -24,8 +22,8 @@ pub record Blank (k : Kept) (z : Shape) (m r : ℕ) : Type 0 where
   pub room : Room k z m r
   pub before : vec_items k.before ≡ replicate m none
 
--- beside the board d: the sizes of its rounds, and these as the rounds before the next change
-pub record Beside (d : Board) (k : Kept) (m r : ℕ) : Type 0 where
-  pub room : Room k d.shape m r
-  pub sizes : vec_items k.sizes ≡ sizes_of r (rounds_on d)
-  pub before : (i : ℕ) → round_of (vec_items k.before) i ≡ round_of (rounds_on d) i
+-- beside a board of this shape with the rounds xs: their sizes, and these rounds as those before the next change
+pub record Beside (z : Shape) (xs : List ℕ) (k : Kept) (m r : ℕ) : Type 0 where
+  pub room : Room k z m r
+  pub sizes : vec_items k.sizes ≡ sizes_of r xs
+  pub before : (i : ℕ) → round_of (vec_items k.before) i ≡ round_of xs i

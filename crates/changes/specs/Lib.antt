@@ -1,10 +1,14 @@
+pub mod Bytes
 pub mod Days
 pub mod Keeping
 pub mod Kinds
 pub mod Making
+pub mod MakingOn
 pub mod Numbered
 pub mod OnBoard
 pub mod Registered
+pub mod RowOn
+pub mod Rows
 pub mod Statements
 pub mod Tested
 pub mod Told

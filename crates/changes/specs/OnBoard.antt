@@ -1,15 +1,24 @@
 -- What is done on a board while a change is made. Assumes nothing.
-use Rattle.std.specs.Prelude.{◌≡◌, ℕ, ◌-◌, ◌<◌, ◌≤◌, Bool, true, cond, ◌&&◌, ◌||◌, List, length, ◌==◌, nat_le, nat_lt}
+use Rattle.std.specs.List.Sorted.{IsNonDecreasing}
+use Rattle.std.specs.Prelude.{◌≡◌, ℕ, ◌-◌, ◌<◌, ◌≤◌, Bool, true, cond, ◌&&◌, ◌||◌, List, [], ◌∷◌, ◌++◌, length, ◌==◌, nat_le, nat_lt, slice_set, ⊤}
 use Rattle.meetings.specs.declared.numbers.Side.TheVariants.{Groups}
+use Rattle.meetings.specs.declared.numbers.Meeting.{Meeting}
 use Rattle.fewest.specs.Plans.{none}
+use Rattle.chains.specs.declared.found.Found.{Found}
+use Rattle.chains.specs.Finding.{Finds, found_in, with_new}
+use Rattle.placing.specs.Putting.{placed}
+use Rattle.placing.specs.Steps.{Step, all_named}
+use Rattle.balance.specs.Evening.{even_steps}
 use Rattle.chains.specs.declared.board.Board.{Board}
 use Rattle.chains.specs.Boards.{Becomes, meetings_on, rounds_on}
 use Rattle.chains.specs.Chains.{holds}
 use Rattle.chains.specs.Partial.{party_of, round_of}
 use Rattle.chains.specs.Rows.{ManyWithin}
 use Rattle.chains.specs.Statements.{Once}
+use Rattle.balance.specs.Sizes.{sizes_of}
 use Rattle.changes.specs.declared.change.Change.{Change}
 use Rattle.changes.specs.declared.change.Change.TheVariants.{Add, Drop, GetRoom, GiveRoomUp}
+use Rattle.changes.specs.Making.{put_each, put_each_steps, taken_out}
 use Rattle.changes.specs.Numbered.{Numbered}
 use Rattle.changes.specs.Waiting.{Spared, WhilePutting}
 
@@ -67,3 +76,28 @@ CanNote d r (Add m) = (1 ≤ length (meetings_on d)) × (round_of (rounds_on d) 
 CanNote d r (Drop i) = (i.0 < length (meetings_on d)) × (round_of (rounds_on d) i.0 < r)
 CanNote d r GiveRoomUp = ⊤
 CanNote d r GetRoom = ⊤
+
+-- a change is noted on the board d, which becomes e: the sizes are those of its rounds, a dropped meeting has no round from before,
+-- and an added one waits
+pub record Notes (d e : Board) (c : Change) (ns ns' bs bs' is : List ℕ) : Type 0 where
+  pub board : Becomes d e (dropped (rounds_on d) c)
+  pub sizes : ns' ≡ sizes_of (length ns) (dropped (rounds_on d) c)
+  pub before : bs' ≡ dropped bs c
+  pub waiting : is ≡ newcomer (length (meetings_on d)) c
+
+-- the board d becomes e: where there were rounds up to from, those from to on are no more, and whoever is in one waits, beside those
+-- that wait already; the sizes are those of the rounds then
+pub record TakesRest (d e : Board) (from to : ℕ) (ns ns' is js : List ℕ) : Type 0 where
+  pub board : Becomes d e (taken_out to (rounds_on d))
+  pub sizes : ns' ≡ sizes_of (length ns) (taken_out to (rounds_on d))
+  pub held : (i : ℕ) → holds js i ≡ (holds is i || goes d to from i)
+  pub once : Once js
+  pub rising : IsNonDecreasing js
+
+-- v becomes w, which has found also those that these steps name
+abbrev pub Touches : Found → Found → List Step → Type 0
+Touches v w ts = Finds v w (with_new (found_in v) (all_named ts))
+
+-- the steps in which a plan is made again, where these wait
+abbrev pub steps_again : ℕ → List Meeting → List ℕ → List ℕ → List Step
+steps_again r ms is xs = put_each_steps r ms is xs ++ even_steps r ms (placed (put_each r ms is (placed xs 0)).rounds 0)

@@ -11,6 +11,7 @@ use Rattle.changes.specs.declared.change.Change.TheVariants.{Drop}
 use Rattle.changes.specs.Days.{Day, Stands, numbered, rounds_of}
 use Rattle.changes.specs.Making.{Made, after, put_waiting, start_of, waiting}
 use Rattle.changes.specs.Numbered.{can, changed, rounds_for}
+use Rattle.changes.specs.Rows.{CanAll}
 
 -- a meeting that is put in has no round before: it is the new one, or its round is no more
 abbrev pub Anew : Day → Change → ℕ → ℕ → Type 0
@@ -40,23 +41,14 @@ pub record ChangeStands (d : Day) (c : Change) (e : Made) : Type 0 where
   pub looks : e.looks ≤ looks_at_most d c
 
 -- EVERY CHANGE that can be made leaves a day that stands
-abbrev pub Changes : Type 0
-Changes = (d : Day) (c : Change) → Stands d → can (numbered d) c ≡ true → ChangeStands d c (after d c)
+abbrev pub EveryChange : Type 0
+EveryChange = (d : Day) (c : Change) → Stands d → can (numbered d) c ≡ true → ChangeStands d c (after d c)
 
--- what each change of a row leaves, one after the other
-abbrev pub run : Day → List Change → List Made
-run d [] = []
-run d (c ∷ cs) = after d c ∷ run (after d c).day cs
-
--- each change of a row can be made when its turn comes
-abbrev pub AllCan : Day → List Change → Type 0
-AllCan d [] = Unit {0}
-AllCan d (c ∷ cs) = (can (numbered d) c ≡ true) × AllCan (after d c).day cs
-
+-- so it is of each change of a row
 abbrev pub AllStand : Day → List Change → Type 0
 AllStand d [] = Unit {0}
 AllStand d (c ∷ cs) = ChangeStands d c (after d c) × AllStand (after d c).day cs
 
--- FOR EVERY ROW OF CHANGES
-abbrev pub Rows : Type 0
-Rows = (d : Day) (cs : List Change) → Stands d → AllCan d cs → AllStand d cs
+-- EVERY ROW of changes of which each can be made when its turn comes
+abbrev pub EveryRow : Type 0
+EveryRow = (d : Day) (cs : List Change) → Stands d → CanAll (numbered d) cs → AllStand d cs

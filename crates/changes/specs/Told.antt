@@ -1,19 +1,16 @@
 -- What a row of changes answers, and what it leaves. Definitions; assumes nothing.
-use Rattle.std.specs.Prelude.{◌≡◌, ℕ, max, List, [], ◌∷◌, ◌++◌, length, drop}
+use Rattle.std.specs.Prelude.{◌≡◌, ℕ, max, List, [], ◌∷◌, ◌++◌, length, drop, take}
 use Rattle.meetings.specs.Lists.{Contents}
 use Rattle.meetings.specs.Refusals.{Outcome, accepted, then}
 use Rattle.fewest.specs.Rounds.{fewest, largest}
 use Rattle.chains.specs.Shapes.{lent_shape, shape_of}
-use Rattle.balance.specs.Lent.{BoardLent, plan_of}
+use Rattle.balance.specs.Lent.{BoardLent}
 use Rattle.changes.specs.declared.change.Change.{Change}
 use Rattle.changes.specs.declared.changed.Changed.{Changed}
-use Rattle.changes.specs.Days.{Day, number_moved, rounds_of}
-use Rattle.changes.specs.Making.{after}
+use Rattle.changes.specs.Days.{Day, Stands, first_day, number_moved, rounds_of}
+use Rattle.changes.specs.Making.{Made, after}
 use Rattle.changes.specs.Numbered.{tested, whole}
-
--- the day before any change: the plan of a list
-abbrev pub first_day : Contents → Day
-first_day d = record { list = d; at = (plan_of d).rounds }
+use Rattle.changes.specs.Statements.{ChangeStands}
 
 -- what is told of a change that makes the day d the day e with so many looks
 abbrev pub told_of : Day → Day → ℕ → Changed
@@ -42,3 +39,18 @@ answer_of d cs long_rounds long_groups long_stations =
 pub record ChangedLent (d : Contents) (e : Day) (xs xs' gs gs' ss ss' : List ℕ) : Type 0 where
   pub rounds : xs' ≡ e.at ++ drop (length e.at) xs
   pub rows : BoardLent e.list.meetings (shape_of d (length gs) (length ss)) e.at gs gs' ss ss'
+
+-- WHAT A ROW PROMISES, where so much is told of it: each change leaves what it should of the day before, that is told, and the last
+-- day is e
+abbrev pub Promised : Day → List Change → List Changed → Day → Type 0
+Promised d [] [] e = e ≡ d
+Promised d [] (t ∷ ts) e = ⊥
+Promised d (c ∷ cs) [] e = ⊥
+Promised d (c ∷ cs) (t ∷ ts) e = (m : Made) × ChangeStands d c m × (t ≡ told_of d m.day m.looks) × Promised m.day cs ts e
+
+-- of the lent rounds: they are those of the last day
+pub record RowPromised (d : Contents) (cs : List Change) (ts : List Changed) (xs : List ℕ) : Type 0 where
+  pub first : Stands (first_day d)
+  pub last : Day
+  pub each : Promised (first_day d) cs ts last
+  pub rounds : take (length last.list.meetings) xs ≡ last.at

@@ -18,8 +18,8 @@ const MOST_MEETINGS: usize = 4000;
 
 #[derive(Drop)]
 pub(crate) struct Register {
-    groups: u16,
-    stations: u16,
+    pub(crate) groups: u16,
+    pub(crate) stations: u16,
     rooms: u16,
     meetings: Vec<Meeting>,
     there: Vec<bool>,
@@ -82,16 +82,7 @@ impl Register {
     }
 
     // A meeting more, with the next number.
-    #[tactic(
-        auto,
-        using(
-            crate::proofs::Keeping::group_counted,
-            crate::proofs::Keeping::station_counted,
-            crate::proofs::Keeping::group_fits,
-            crate::proofs::Keeping::station_fits,
-            crate::proofs::Keeping::many_fits
-        )
-    )]
+    #[tactic(auto, using(crate::proofs::Keeping::group_counted, crate::proofs::Keeping::station_counted, crate::proofs::Keeping::group_fits, crate::proofs::Keeping::station_fits, crate::proofs::Keeping::many_fits))]
     fn add(&mut self, meeting: Meeting) -> Result<(), Refusal>
         requires kept { Kept self.old }
         requires can { can (registered self.old) (Add meeting) ≡ true }
@@ -105,16 +96,7 @@ impl Register {
     }
 
     // A meeting is dropped.
-    #[tactic(
-        auto,
-        using(
-            crate::proofs::Keeping::gone_group_counted,
-            crate::proofs::Keeping::gone_station_counted,
-            crate::proofs::Keeping::group_some,
-            crate::proofs::Keeping::station_some,
-            crate::proofs::Keeping::many_some
-        )
-    )]
+    #[tactic(auto, using(crate::proofs::Keeping::gone_group_counted, crate::proofs::Keeping::gone_station_counted, crate::proofs::Keeping::group_some, crate::proofs::Keeping::station_some, crate::proofs::Keeping::many_some))]
     fn drop_meeting(&mut self, id: MeetingId)
         requires kept { Kept self.old }
         requires can { can (registered self.old) (Drop id) ≡ true }

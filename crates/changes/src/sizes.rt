@@ -1,5 +1,5 @@
 // The sizes of the rounds are kept while meetings come and go.
-ghost use Rattle.std.specs.Prelude.{◌≡◌, ◌+◌, ◌-◌, ◌<◌, ◌≤◌, length, slice_index, slice_set};
+ghost use Rattle.std.specs.Prelude.{◌≡◌, ◌+◌, ◌-◌, ◌<◌, ◌≤◌, ◌++◌, length, take, drop, replicate, slice_index, slice_set};
 ghost use Rattle.fewest.specs.Plans.{none};
 ghost use Rattle.chains.specs.Boards.{Becomes, meetings_on, rounds_on};
 ghost use Rattle.chains.specs.Partial.{round_of};
@@ -24,6 +24,15 @@ fn take_one(sizes: &mut [u16], round: Round)
     ensures { sizes.new ≡ slice_set sizes.old round.0 (slice_index sizes.old round.0 - 1) }
 {
     sizes[round.0 as usize] -= 1;
+}
+
+// No meetings in the rounds from the first of these to the second, which is not one of them.
+pub(crate) fn clear_from(sizes: &mut [u16], first: u16, end: u16)
+    requires order { first ≤ end }
+    requires within { end ≤ length sizes.old }
+    ensures { sizes.new ≡ take first sizes.old ++ (replicate (end - first) 0 ++ drop end sizes.old) }
+{
+    sizes[usize::from(first)..usize::from(end)].fill(0);
 }
 
 // A meeting leaves its round.

@@ -23,5 +23,8 @@ pub(crate) fn test(heap: Global, list: &MeetingList, changes: &[Change]) -> Resu
         register.make(*change)?;
         rounds.push(register.rounds())?;
     }
-    Ok(Tested { meetings: register.into_meetings(), rounds })
+    Ok(Tested {
+        meetings: register.into_meetings(),
+        rounds,
+    })
 }

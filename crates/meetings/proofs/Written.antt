@@ -19,7 +19,7 @@ count_written m h =
     let same : m % 256 + 256 * (m / 256) ≡ m = omega arith in
     rw same (grind (arith, nat_tests))
 
-party_written : (bs : List ℕ) (at many p : ℕ) → at < length bs → get_or bs at 0 ≡ p → p < many → party_at bs at many ≡ accepted p
+pub party_written : (bs : List ℕ) (at many p : ℕ) → at < length bs → get_or bs at 0 ≡ p → p < many → party_at bs at many ≡ accepted p
 party_written bs at many p here is below = grind (arith, nat_tests)
 
 -- the two bytes at one place, and what comes after

@@ -40,10 +40,10 @@ fn meeting_count(low: u8, high: u8) -> Result<u16, Refusal>
 
 // The bytes of a list, and how many groups and stations its meetings may name.
 #[derive(Clone, Copy)]
-struct Source<'a> {
-    bytes: &'a [u8],
-    groups: u16,
-    stations: u16,
+pub struct Source<'a> {
+    pub bytes: &'a [u8],
+    pub groups: u16,
+    pub stations: u16,
 }
 
 impl Source<'_> {
@@ -61,7 +61,8 @@ impl Source<'_> {
         Ok(number)
     }
 
-    fn meeting(&self, at: usize) -> Result<Meeting, Refusal>
+    // A meeting: its group and its station.
+    pub fn meeting(&self, at: usize) -> Result<Meeting, Refusal>
         requires { at + 1 < 2 ^ 64 }
         ensures { outcome (λ x. x) result ≡ meeting_at self.now.bytes.now at self.now.groups self.now.stations }
     {

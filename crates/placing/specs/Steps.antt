@@ -1,6 +1,6 @@
 -- What putting in and evening out do, step by step: two rounds are exchanged on a part, or a meeting gets a round. Definitions;
 -- assumes nothing.
-use Rattle.std.specs.Prelude.{◌≡◌, ℕ, ◌%◌, ◌<◌, cond, List, [], ◌∷◌, ◌++◌, ◌==◌, ◌≢◌, nat_lt, slice_set}
+use Rattle.std.specs.Prelude.{◌≡◌, ℕ, ◌%◌, ◌<◌, cond, List, length, [], ◌∷◌, ◌++◌, ◌==◌, ◌≢◌, nat_lt, slice_set}
 use Rattle.meetings.specs.declared.numbers.Meeting.{Meeting}
 use Rattle.meetings.specs.declared.numbers.Side.{Side}
 use Rattle.meetings.specs.declared.numbers.Side.TheVariants.{Groups, Stations}
@@ -34,7 +34,7 @@ all_named (t ∷ ts) = named t ++ all_named ts
 -- meeting without a round gets one of the r rounds in which its group and its station are free
 abbrev pub Allowed : ℕ → List Meeting → List ℕ → Step → Type 0
 Allowed r ms xs (exchange a b is) = (a < r) × (b < r) × (a ≢ b) × (i : ℕ) × PartOf (two ms xs a b) i is
-Allowed r ms xs (put_in i c) = (c < r) × (round_of xs i ≡ none) × ((s : Side) → Vacant ms xs s (party_of ms s i) c)
+Allowed r ms xs (put_in i c) = (i < length ms) × (c < r) × (round_of xs i ≡ none) × ((s : Side) → Vacant ms xs s (party_of ms s i) c)
 
 -- allowed steps lead from the rounds xs to the rounds ys
 abbrev pub Leads : ℕ → List Meeting → List Step → List ℕ → List ℕ → Type 0

@@ -1,0 +1,60 @@
+-- Rows of changes that can be made: what they come to, and that their bytes are read as they were written. Definitions and
+-- statements; assumes nothing.
+use Rattle.std.specs.Prelude.{◌≡◌, ℕ, true, List, [], ◌∷◌, ◌++◌}
+use Rattle.meetings.specs.Lists.{Proper}
+use Rattle.meetings.specs.Refusals.{accepted}
+use Rattle.meetings.specs.RoundTrips.{AllBytes}
+use Rattle.changes.specs.declared.change.Change.{Change}
+use Rattle.changes.specs.Bytes.{bytes_of_changes, read_row, written_row}
+use Rattle.changes.specs.Numbered.{Numbered, can, changed, rounds_for, tested}
+
+-- each change can be made when its turn comes
+abbrev pub CanAll : Numbered → List Change → Type 0
+CanAll v [] = Unit {0}
+CanAll v (c ∷ cs) = (can v c ≡ true) × CanAll (changed v c) cs
+
+-- the meetings in the end
+abbrev pub made_all : Numbered → List Change → Numbered
+made_all v [] = v
+made_all v (c ∷ cs) = made_all (changed v c) cs
+
+-- the number of rounds after each
+abbrev pub rounds_after : Numbered → List Change → List ℕ
+rounds_after v [] = []
+rounds_after v (c ∷ cs) = rounds_for (changed v c) ∷ rounds_after (changed v c) cs
+
+-- a row is tested as what it comes to
+abbrev pub TestedAs : Numbered → List Change → Type 0
+TestedAs v cs = tested v cs 0 [] ≡ accepted (made_all v cs, rounds_after v cs)
+
+-- what can be made is tested as that
+abbrev pub TestedAsMade : Type 0
+TestedAsMade =
+    (v : Numbered) (cs : List Change) (i : ℕ) (rs : List ℕ) → CanAll v cs →
+    tested v cs i rs ≡ accepted (made_all v cs, rs ++ rounds_after v cs)
+
+-- nothing else is accepted
+abbrev pub OnlyWhatCan : Type 0
+OnlyWhatCan =
+    (v : Numbered) (cs : List Change) (i : ℕ) (rs : List ℕ) (p : Numbered × List ℕ) → tested v cs i rs ≡ accepted p →
+    CanAll v cs
+
+-- bytes that are accepted say what can be made, and are what it is written as
+abbrev pub ReadThenWritten : Type 0
+ReadThenWritten =
+    (v : Numbered) (bs : List ℕ) (cs : List Change) → AllBytes bs → read_row v bs ≡ accepted cs →
+    CanAll v cs × (bytes_of_changes cs ≡ bs)
+
+-- what can be made is accepted as it was written
+abbrev pub WrittenThenRead : Type 0
+WrittenThenRead = (v : Numbered) (cs : List Change) → CanAll v cs → read_row v (bytes_of_changes cs) ≡ accepted cs
+
+-- a row that can be made from a proper list is written by its bytes
+abbrev pub WrittenAsBytes : Type 0
+WrittenAsBytes =
+    (v : Numbered) (cs : List Change) → Proper v.list → CanAll v cs → written_row cs ≡ accepted (bytes_of_changes cs)
+
+-- bytes that a row is written by, and that are read as it
+pub record SaysRow (v : Numbered) (cs : List Change) (bs : List ℕ) : Type 0 where
+  pub bytes : bs ≡ bytes_of_changes cs
+  pub back : read_row v bs ≡ accepted cs
