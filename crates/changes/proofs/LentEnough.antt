@@ -5,17 +5,21 @@ use Rattle.std.proofs.lemmas.List.{length-replicate}
 use Rattle.std.proofs.lemmas.Nat.{le-div}
 use Rattle.meetings.specs.Lists.{Contents, Proper, most_meetings}
 use Rattle.meetings.specs.Refusals.{Outcome, accepted, refused, then}
+use Rattle.meetings.specs.RoundTrips.{AllBytes}
 use Rattle.fewest.specs.Plans.{none}
 use Rattle.fewest.specs.Rounds.{fewest, largest}
 use Rattle.chains.specs.Shapes.{width}
 use Rattle.chains.proofs.Fitting.{fitting_accepted}
 use Rattle.balance.proofs.LentEnough.{fewest_below}
 use Rattle.changes.specs.declared.change.Change.{Change}
+use Rattle.changes.specs.Bytes.{read_row}
+use Rattle.changes.specs.Days.{first_day}
 use Rattle.changes.specs.Numbered.{Numbered, can, changed, rounds_for, tested, whole}
-use Rattle.changes.specs.Told.{answer_of, first_day, told}
+use Rattle.changes.specs.Told.{answer_of, told}
 use Rattle.changes.proofs.Left.{rounds_below}
 use Rattle.changes.proofs.LeftChanged.{long_changed}
 use Rattle.changes.proofs.ProperAfter.{groups_kept, proper_after, stations_kept}
+use Rattle.changes.proofs.RowAccepted.{read_then_written, tested_as_made}
 
 largest_pushed : (m : ℕ) (xs : List ℕ) (x : ℕ) → largest xs ≤ m → x ≤ m → largest (xs ++ x ∷ []) ≤ m
 largest_pushed m [] x h new = omega arith
@@ -76,3 +80,10 @@ lent_enough d cs lr lg ls proper er eg es =
   where
     wide : (n r long : ℕ) → 1 ≤ n → r ≤ most_meetings → n * most_meetings ≤ long → r ≤ width n long
     wide n r long some most enough = wide_enough n r long some (omega arith) (omega (arith, mul-le-mul_left n most))
+
+-- nor are they for a row that was read, each change of which can be made
+pub read_enough : (d : Contents) (bs : List ℕ) (long_rounds long_groups long_stations : ℕ) → AllBytes bs → Proper d → most_meetings ≤ long_rounds → d.groups * most_meetings ≤ long_groups → d.stations * most_meetings ≤ long_stations → then (read_row (whole d) bs) (λ cs. answer_of d cs long_rounds long_groups long_stations) ≡ then (read_row (whole d) bs) (λ cs. accepted (told (first_day d) cs))
+read_enough d bs lr lg ls byte proper er eg es =
+    then_same (read_row (whole d) bs) _ _ (λ cs is.
+    let made = tested_as_made (whole d) cs 0 [] (read_then_written (whole d) bs cs byte is).0 in
+    lent_enough d cs lr lg ls proper er eg es ∙ ap (λ o. then o (λ t. accepted (told (first_day d) cs))) made)
