@@ -10,6 +10,7 @@ pub mod Keeping
 pub mod Leading
 pub mod Left
 pub mod LeftChanged
+pub mod LentEnough
 pub mod MakingAgain
 pub mod MovingTurns
 pub mod Named

@@ -6,10 +6,12 @@ mod report;
 
 use balance::Planned;
 use making::report_of;
+use programs::{ended, failed, read, refused};
 use report::Report;
-use std::io::Read;
 use std::process::ExitCode;
-use std::{env, fs, io};
+use std::{env, io};
+
+const NAME: &str = "plan";
 
 const USAGE: &str = "usage: plan DAY
 
@@ -18,15 +20,6 @@ the round of each meeting. Nobody is at two meetings in a round, no round has mo
 rounds differ by more than one meeting.
 DAY is the file with the day's list of meetings; - reads it from standard input.
 A list that breaks a rule is told of in one line, 'refused N at P', with exit status 1.";
-
-fn bytes_of(rt: &HostRuntime, path: &str) -> io::Result<Vec<u8>> {
-    if path != "-" {
-        return fs::read(rt, path);
-    }
-    let mut bytes = Vec::new(rt.alloc());
-    rt.stdin().read_to_end(&mut bytes)?;
-    Ok(bytes)
-}
 
 // The number of rounds and of looks, how many meetings each round has, and the round of each meeting.
 fn print_report(rt: &HostRuntime, report: &Report) -> io::Result<()> {
@@ -42,22 +35,15 @@ fn print_report(rt: &HostRuntime, report: &Report) -> io::Result<()> {
 }
 
 fn plan(rt: &HostRuntime, path: &str) -> io::Result<ExitCode> {
-    let bytes = match bytes_of(rt, path) {
-        Ok(bytes) => bytes,
-        Err(e) => {
-            eprintln!(rt; "plan: cannot read {path}: {e}. Name the file with the day's meetings.")?;
-            return Ok(ExitCode::FAILURE);
-        }
+    let Some(bytes) = read(rt, NAME, path, "the day's meetings")? else {
+        return Ok(ExitCode::FAILURE);
     };
     match report_of(rt.alloc(), &bytes) {
         Ok(report) => {
             print_report(rt, &report)?;
             Ok(ExitCode::SUCCESS)
         }
-        Err(refusal) => {
-            println!(rt; "{refusal}")?;
-            Ok(ExitCode::FAILURE)
-        }
+        Err(refusal) => refused(rt, refusal),
     }
 }
 
@@ -66,8 +52,11 @@ fn run(rt: &HostRuntime) -> io::Result<ExitCode> {
     let first = args.next();
     let more = args.next();
     let (Some(path), None) = (first, more) else {
-        eprintln!(rt; "plan: one file is needed, the day's meetings: plan DAY. See plan --help.")?;
-        return Ok(ExitCode::FAILURE);
+        return failed(
+            rt,
+            NAME,
+            "one file is needed, the day's meetings: plan DAY. See plan --help.",
+        );
     };
     if path.as_str() == "--help" {
         println!(rt; "{USAGE}")?;
@@ -77,11 +66,5 @@ fn run(rt: &HostRuntime) -> io::Result<ExitCode> {
 }
 
 fn main(rt: HostRuntime) -> ExitCode {
-    match run(&rt) {
-        Ok(ended) => ended,
-        Err(e) => {
-            let _ = eprintln!(rt; "plan: {e}");
-            ExitCode::FAILURE
-        }
-    }
+    ended(&rt, NAME, run(&rt))
 }

@@ -1,0 +1,42 @@
+// How a program ends.
+ghost use Rattle.std.specs.Prelude.{◌≡◌, IfOk, MatchResult};
+ghost use Rattle.std.specs.Process.{exit_status};
+
+use meetings::Refusal;
+use std::fmt::Display;
+use std::io;
+use std::process::ExitCode;
+
+// What went wrong outside: a sentence on standard error.
+pub fn failed<D: Display + Drop>(
+    rt: &impl Eprint,
+    program: &str,
+    sentence: D,
+) -> io::Result<ExitCode>
+    ensures { IfOk result (λ e. exit_status e ≡ 1) }
+{
+    eprintln!(rt; "{program}: {sentence}")?;
+    Ok(ExitCode::FAILURE)
+}
+
+// A refusal is the answer: one line on standard output.
+pub fn refused(rt: &impl Print, refusal: Refusal) -> io::Result<ExitCode>
+    ensures { IfOk result (λ e. exit_status e ≡ 1) }
+{
+    println!(rt; "{refusal}")?;
+    Ok(ExitCode::FAILURE)
+}
+
+// The status of a program that came to this end. What it could not write is told of on standard error, as far as that can be
+// written.
+pub fn ended(rt: &impl Eprint, program: &str, end: io::Result<ExitCode>) -> ExitCode
+    ensures { MatchResult end (λ e. result ≡ e) (λ _. exit_status result ≡ 1) }
+{
+    match end {
+        Ok(status) => status,
+        Err(e) => {
+            let _ = eprintln!(rt; "{program}: {e}");
+            ExitCode::FAILURE
+        }
+    }
+}
