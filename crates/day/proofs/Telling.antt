@@ -1,6 +1,9 @@
 -- What is told is what the rule says: slices that are long enough for 120 parties and 4,000 rounds are refused for no list and no row.
 -- Assumes nothing.
-use Rattle.std.proofs.Common.{◌≡◌, ℕ, ◌*◌, ◌≤◌, List, mul-le-mul_right, arith}
+use Rattle.std.proofs.Common.{◌≡◌, ℕ, ◌*◌, ◌≤◌, List, mul-le-mul_right, arith, Err, Global, IfOk, Ok, Result, Vec, vec_items}
+use Rattle.changes.specs.Told.{OfRow, RowPromised}
+use Rattle.changes.specs.declared.changed.Changed.{Changed}
+use Rattle.meetings.specs.declared.refusal.Refusal.{Refusal}
 use Rattle.meetings.specs.Bytes.{read_list}
 use Rattle.meetings.specs.Lists.{most, most_meetings}
 use Rattle.meetings.specs.Refusals.{then}
@@ -20,3 +23,8 @@ told_exactly day changes lr lg ls byte byte' er eg es =
   where
     wide : (n long : ℕ) → n ≤ most → most * most_meetings ≤ long → n * most_meetings ≤ long
     wide n long few enough = omega (arith, mul-le-mul_right most_meetings few)
+
+-- where the promise holds of these rounds it holds of some
+pub of_some : (day changes xs : List ℕ) (o : Result (Vec Changed Global) Refusal) → IfOk o (λ ts. OfRow day changes (λ d cs. RowPromised d cs (vec_items ts) xs)) → IfOk o (λ ts. OfRow day changes (λ d cs. (xs : List ℕ) × RowPromised d cs (vec_items ts) xs))
+of_some day changes xs (Ok ts) all = λ d cs e f. (xs, all d cs e f)
+of_some day changes xs (Err e) all = tt

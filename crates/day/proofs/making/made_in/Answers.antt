@@ -3,8 +3,8 @@ use Rattle.meetings.specs.Refusals.{Answers}
 use Rattle.day.proofs.Telling.{told_exactly}
 use Rattle.day.proofs.making.made_in.Goals as goal
 
-pub returns : goal.returns
-returns c =
+pub returns-clause-told : goal.returns-clause-told
+returns-clause-told c =
     subst (Answers vec_items c.change_bytes.result)
     (told_exactly c.args.day.now c.args.changes.now _ _ _ (λ i. (c.type_inv.day i).fits) (λ i. (c.type_inv.changes i).fits) c.requires.rounds c.requires.groups c.requires.stations)
     c.change_bytes.ensures.answer
