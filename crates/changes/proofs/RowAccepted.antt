@@ -14,7 +14,7 @@ use Rattle.changes.specs.declared.change.Change.{Change}
 use Rattle.changes.specs.declared.change.Change.TheVariants.{Add, Drop, GetRoom, GiveRoomUp}
 use Rattle.changes.specs.Bytes.{bytes_of_change, bytes_of_changes, change_at, changes_at, id_at, next_at, read_row, width_of}
 use Rattle.changes.specs.Numbered.{Numbered, can, changed, rounds_for, tested}
-use Rattle.changes.specs.Rows.{CanAll, FirstThatCannot, OnlyWhatCan, ReadThenWritten, RefusedAsFirst, TestedAsMade, made_all, rounds_after}
+use Rattle.changes.specs.Rows.{CanAll, OnlyWhatCan, ReadThenWritten, TestedAsMade, made_all, rounds_after}
 
 -- a row that can be made, as it is tested
 pub tested_as_made : TestedAsMade
@@ -39,34 +39,6 @@ only_what_can v [] i rs p e = tt
 only_what_can v (c ∷ cs) i rs p e =
     let more = only_if (can v c) 6 i (tested (changed v c) cs (i + 1) (rs ++ rounds_for (changed v c) ∷ [])) p e in
     (more.0, only_what_can (changed v c) cs (i + 1) (rs ++ rounds_for (changed v c) ∷ []) p more.1)
-
--- a change that cannot be made, behind one that can
-first_after : (v : Numbered) (c : Change) (cs : List Change) (p : ℕ) → can v c ≡ true → FirstThatCannot (changed v c) cs p → FirstThatCannot v (c ∷ cs) (p + 1)
-first_after v c cs p may first = record {
-  came = c ∷ first.came;
-  one = first.one;
-  rest = first.rest;
-  row = ap (λ l. c ∷ l) first.row;
-  place = omega (arith, first.place);
-  before = (may, first.before);
-  cannot = first.cannot;
-}
-
-first_refused : (b : Bool) (v : Numbered) (c : Change) (cs : List Change) (i number place : ℕ) (o : Outcome (Numbered × List ℕ)) → can v c ≡ b → (o ≡ refused number place → (number ≡ 6) × ((p : ℕ) × (place ≡ i + 1 + p) × FirstThatCannot (changed v c) cs p)) → cond b o (refused 6 i) ≡ refused number place → (number ≡ 6) × ((p : ℕ) × (place ≡ i + p) × FirstThatCannot v (c ∷ cs) p)
-first_refused true v c cs i number place o may rest e =
-    let first = rest e in
-    (first.0, (first.1.0 + 1, omega (arith, first.1.1), first_after v c cs first.1.0 may first.1.2))
-first_refused false v c cs i number place o may rest e =
-    let six : number ≡ 6 = cc e in
-    let here : place ≡ i + 0 = let at : place ≡ i = cc e in omega (arith, at) in
-    (six, (0, here, record { came = []; one = c; rest = cs; row = refl; place = refl; before = tt; cannot = may }))
-
--- A ROW IS REFUSED for the first change that cannot be made
-pub refused_as_first : RefusedAsFirst
-refused_as_first v [] i rs number place e = absurd (never (sym e))
-refused_as_first v (c ∷ cs) i rs number place e =
-    first_refused (can v c) v c cs i number place (tested (changed v c) cs (i + 1) (rs ++ rounds_for (changed v c) ∷ [])) refl
-    (refused_as_first (changed v c) cs (i + 1) (rs ++ rounds_for (changed v c) ∷ []) number place) e
 
 three_bytes : (bs : List ℕ) (at : ℕ) → at + 2 < length bs → drop at bs ≡ get_or bs at 0 ∷ get_or bs (at + 1) 0 ∷ get_or bs (at + 2) 0 ∷ drop (at + 3) bs
 three_bytes bs at h =
@@ -144,14 +116,14 @@ said_more v bs at came cs c may stood more = record {
   bytes = stood ∙ ap (λ l. bytes_of_change c ++ l) more.bytes;
 }
 
-wide : (c : Change) → 1 ≤ width_of c
+pub wide : (c : Change) → 1 ≤ width_of c
 wide (Add m) = omega arith
 wide (Drop i) = omega arith
 wide GiveRoomUp = omega arith
 wide GetRoom = omega arith
 
 -- the next change, which can be made
-next_accepted : (v : Numbered) (bs : List ℕ) (at z : ℕ) (c : Change) → next_at v bs at z ≡ accepted c → (change_at bs at v.list.groups v.list.stations z ≡ accepted c) × (can v c ≡ true)
+pub next_accepted : (v : Numbered) (bs : List ℕ) (at z : ℕ) (c : Change) → next_at v bs at z ≡ accepted c → (change_at bs at v.list.groups v.list.stations z ≡ accepted c) × (can v c ≡ true)
 next_accepted v bs at z c e =
     let one = then_accepted (change_at bs at v.list.groups v.list.stations z) (λ c. cond (can v c) (accepted c) (refused 6 z)) c e in
     let may = only_if (can v one.0) 6 z (accepted one.0) c one.2 in

@@ -1,11 +1,11 @@
 -- Rows of changes that can be made: what they come to, and that their bytes are read as they were written. Definitions and
 -- statements; assumes nothing.
-use Rattle.std.specs.Prelude.{◌≡◌, ℕ, ◌+◌, true, false, List, [], ◌∷◌, ◌++◌, length}
+use Rattle.std.specs.Prelude.{◌≡◌, ℕ, ◌+◌, ◌<◌, true, false, List, [], ◌∷◌, ◌++◌, drop, length}
 use Rattle.meetings.specs.Lists.{Proper}
 use Rattle.meetings.specs.Refusals.{accepted, refused}
 use Rattle.meetings.specs.RoundTrips.{AllBytes}
 use Rattle.changes.specs.declared.change.Change.{Change}
-use Rattle.changes.specs.Bytes.{bytes_of_changes, read_row, written_row}
+use Rattle.changes.specs.Bytes.{bytes_of_changes, next_at, read_row, written_row}
 use Rattle.changes.specs.Numbered.{Numbered, can, changed, rounds_for, tested}
 
 -- each change can be made when its turn comes
@@ -50,6 +50,20 @@ abbrev pub RefusedAsFirst : Type 0
 RefusedAsFirst =
     (v : Numbered) (cs : List Change) (i : ℕ) (rs : List ℕ) (number place : ℕ) → tested v cs i rs ≡ refused number place →
     (number ≡ 6) × ((p : ℕ) × (place ≡ i + p) × FirstThatCannot v cs p)
+
+-- these bytes begin with changes that can be made, and what comes then is refused where it stands
+pub record FirstRefused (v : Numbered) (bs : List ℕ) (number place : ℕ) : Type 0 where
+  pub came : List Change
+  pub before : CanAll v came
+  pub bytes : bs ≡ bytes_of_changes came ++ drop (length (bytes_of_changes came)) bs
+  pub here : length (bytes_of_changes came) < length bs
+  pub next : next_at (made_all v came) bs (length (bytes_of_changes came)) (length came) ≡ refused number place
+
+-- BYTES ARE REFUSED for the first of them that say no change that can be made
+abbrev pub ReadAsFirst : Type 0
+ReadAsFirst =
+    (v : Numbered) (bs : List ℕ) (number place : ℕ) → AllBytes bs → read_row v bs ≡ refused number place →
+    FirstRefused v bs number place
 
 -- bytes that are accepted say what can be made, and are what it is written as
 abbrev pub ReadThenWritten : Type 0
