@@ -1,7 +1,7 @@
 -- The fullest and the emptiest of r rounds: by each of the two tests some round is beaten by no other, so the lowest-numbered
 -- such round is below r, and it is the first of those with the largest, or with the smallest, number. Assumes nothing.
-use Rattle.std.proofs.Common.{◌≡◌, ℕ, zero, suc, ◌+◌, ◌<◌, ◌≤◌, Bool, true, false, eqb, ltb, leb, ◌⊎◌, inl, inr, ap, ◌∙◌, ⊎_elim, arith}
-use Rattle.std.proofs.lemmas.Bool.{cases_Bool, cases_lt, both_ways, eq-eqb, eqb-true, ltb-false, le-ltb, leb-true, leb-false}
+use Rattle.std.proofs.Common.{◌≡◌, ℕ, zero, suc, ◌+◌, ◌<◌, ◌≤◌, Bool, true, false, eqb, ltb, leb, ◌⊎◌, inl, inr, sym, ap, ◌∙◌, ⊎_elim, arith}
+use Rattle.std.proofs.lemmas.Bool.{cases_Bool, cases_lt, both_ways, eq-eqb, eqb-true, ltb-true, ltb-false, le-ltb, leb-true, leb-false}
 use Rattle.std.proofs.lemmas.Bool.Decides.{nat_tests}
 use Rattle.fewest.specs.Counting.{count}
 use Rattle.fewest.proofs.Counting.{count_ext, count_none}
@@ -90,6 +90,40 @@ module _ (beats : ℕ → ℕ → Bool) (strict : Strict beats) (f : ℕ → ℕ
 unbeaten_ext : (beats : ℕ → ℕ → Bool) (r : ℕ) (f g : ℕ → ℕ) → ((c : ℕ) → c < r → f c ≡ g c) → unbeaten beats f r ≡ unbeaten beats g r
 unbeaten_ext beats r f g same =
     lowest_ext (best beats f r) (best beats g r) r (λ c h. ap (λ x. eqb x 0) (count_ext (λ e. beats (f e) (f c)) (λ e. beats (g e) (g c)) r (λ e l. ap (λ x. beats x (f c)) (same e l) ∙ ap (beats (g e)) (same c h))))
+
+-- of the rounds before it, the number of each is beaten by its own
+unbeaten_before : (beats : ℕ → ℕ → Bool) → Strict beats → (r : ℕ) (f : ℕ → ℕ) → 1 ≤ r → (e : ℕ) → e < unbeaten beats f r → beats (f (unbeaten beats f r)) (f e) ≡ true
+unbeaten_before beats strict r f h e l =
+    let c = unbeaten beats f r in
+    let top = unbeaten_is beats strict f r h in
+    let below = unbeaten_below beats strict f r h in
+    ⊎_elim
+    (λ yes. yes)
+    (λ no.
+    let same : f e ≡ f c = strict.either (f e) (f c) (top e (omega (arith, below))) no in
+    absurd (both_ways _ ((lowest_of (best beats f r) r).before e l) (is_best beats strict f r e (λ i k. ap (beats (f i)) same ∙ top i k))))
+    (cases_Bool (beats (f c) (f e)))
+
+-- the next of a size that no other beats, where those before are beaten, is unbeaten
+unbeaten_next : (beats : ℕ → ℕ → Bool) → Strict beats → (f : ℕ → ℕ) (r from c x : ℕ) → c < r → f c ≡ x → ((e : ℕ) → e < r → beats (f e) x ≡ false) → ((e : ℕ) → e < from → beats x (f e) ≡ true) → ((e : ℕ) → from ≤ e → e < c → (f e ≡ x → ⊥)) → unbeaten beats f r ≡ c
+unbeaten_next beats strict f r from c x h is top before first =
+    unbeaten_found beats strict f r c h (λ e l. ap (beats (f e)) is ∙ top e l)
+    (λ e l same. ⊎_elim
+    (λ old. both_ways _ (strict.itself x) (ap (beats x) (sym (same ∙ is)) ∙ before e old))
+    (λ new. first e new l (same ∙ is))
+    (cases_lt e from))
+
+pub fullest_next : (f : ℕ → ℕ) (r from c x : ℕ) → c < r → f c ≡ x → ((e : ℕ) → e < r → more (f e) x ≡ false) → ((e : ℕ) → e < from → more x (f e) ≡ true) → ((e : ℕ) → from ≤ e → e < c → (f e ≡ x → ⊥)) → fullest r f ≡ c
+fullest_next = unbeaten_next more strict_more
+
+pub emptiest_next : (f : ℕ → ℕ) (r from c x : ℕ) → c < r → f c ≡ x → ((e : ℕ) → e < r → ltb (f e) x ≡ false) → ((e : ℕ) → e < from → ltb x (f e) ≡ true) → ((e : ℕ) → from ≤ e → e < c → (f e ≡ x → ⊥)) → emptiest r f ≡ c
+emptiest_next = unbeaten_next ltb strict_less
+
+pub fullest_before : (r : ℕ) (f : ℕ → ℕ) → 1 ≤ r → (e : ℕ) → e < fullest r f → f e < f (fullest r f)
+fullest_before r f h e l = ltb-true _ _ (unbeaten_before more strict_more r f h e l)
+
+pub emptiest_before : (r : ℕ) (f : ℕ → ℕ) → 1 ≤ r → (e : ℕ) → e < emptiest r f → f (emptiest r f) < f e
+emptiest_before r f h e l = ltb-true _ _ (unbeaten_before ltb strict_less r f h e l)
 
 -- THE FULLEST ROUND has the most
 pub fullest_is : (r : ℕ) (f : ℕ → ℕ) → 1 ≤ r → (fullest r f < r) × ((c : ℕ) → c < r → f c ≤ f (fullest r f))

@@ -15,5 +15,6 @@ pub mod Looking
 pub mod OneExchange
 pub mod Passed
 pub mod SamePart
+pub mod SearchedOn
 pub mod Touched
 pub mod WholePlan

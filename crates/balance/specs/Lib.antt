@@ -4,5 +4,6 @@ pub mod Looking
 pub mod OnBoard
 pub mod Ordered
 pub mod Scratch
+pub mod Searching
 pub mod Sizes
 pub mod Statements

@@ -12,7 +12,8 @@ ghost use Rattle.balance.specs.Statements.{EvenedOut};
 
 use crate::looks::look;
 use crate::ordered::order_two;
-use crate::sizes::{move_one, uneven_rounds};
+use crate::searching::{Search, uneven_rounds};
+use crate::sizes::move_one;
 use chains::{Board, Found, TwoRounds};
 
 // Exchanges two rounds on the first part that has one more meeting in the first of them, and adds the part to what was touched.
@@ -63,7 +64,8 @@ pub fn even_out(
     ensures room { vec_capacity ordered.new ≡ vec_capacity ordered.old }
 {
     let mut looks = 0;
-    while let Some(rounds) = uneven_rounds(sizes) {
+    let mut search = Search::start(sizes);
+    while let Some(rounds) = uneven_rounds(sizes, &mut search) {
         looks += exchange_between(board, rounds, ordered, found, touched);
         move_one(sizes, rounds);
     }

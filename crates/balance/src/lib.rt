@@ -7,6 +7,7 @@ mod ordered;
 mod planned;
 mod planning;
 mod scratch;
+mod searching;
 mod sizes;
 mod theorems;
 

@@ -3,7 +3,7 @@ ghost use Rattle.std.specs.Prelude.{◌≡◌, ◌+◌, ◌-◌, ◌<◌, ◌≤
 ghost use Rattle.fewest.specs.Plans.{none};
 ghost use Rattle.chains.specs.Boards.{rounds_on};
 ghost use Rattle.chains.specs.Partial.{Unless};
-ghost use Rattle.balance.specs.Sizes.{IfUneven, Least, emptiest, fullest, sizes_of};
+ghost use Rattle.balance.specs.Sizes.{Least, emptiest, fullest, sizes_of};
 
 use chains::{Board, TwoRounds};
 use fewest::largest_of;
@@ -39,21 +39,21 @@ pub fn count_sizes(board: &Board<'_>, sizes: &mut [u16])
 }
 
 // The first round of this size.
-fn first_of(sizes: &[u16], size: u16) -> Option<usize>
+pub(crate) fn first_of(sizes: &[u16], size: u16) -> Option<usize>
     ensures { result ≡ position (λ x. x == size) sizes.now }
 {
     sizes.iter().position(|other| *other == size)
 }
 
 // The least of these numbers, if there are any.
-fn least_of(numbers: &[u16]) -> u16
+pub(crate) fn least_of(numbers: &[u16]) -> u16
     ensures { Least numbers.now result }
 {
     numbers.iter().copied().min().unwrap_or(0)
 }
 
 // The lowest-numbered round with the most meetings, none if there are no rounds.
-fn fullest(sizes: &[u16]) -> Option<Round>
+pub(crate) fn fullest(sizes: &[u16]) -> Option<Round>
     requires few { length sizes.now ≤ none }
     ensures { Unless (length sizes.now) (λ c. c.0) result (fullest (length sizes.now) (slice_index sizes.now)) }
 {
@@ -62,24 +62,11 @@ fn fullest(sizes: &[u16]) -> Option<Round>
 }
 
 // The lowest-numbered round with the fewest meetings, none if there are no rounds.
-fn emptiest(sizes: &[u16]) -> Option<Round>
+pub(crate) fn emptiest(sizes: &[u16]) -> Option<Round>
     requires few { length sizes.now ≤ none }
     ensures { Unless (length sizes.now) (λ c. c.0) result (emptiest (length sizes.now) (slice_index sizes.now)) }
 {
     first_of(sizes, least_of(sizes)).map(|round| Round(round as u16))
-}
-
-// The fullest and the emptiest round, if the one has at least two meetings more than the other.
-pub(crate) fn uneven_rounds(sizes: &[u16]) -> Option<TwoRounds>
-    requires few { length sizes.now ≤ none }
-    ensures { IfUneven (length sizes.now) (slice_index sizes.now) result }
-{
-    let a = fullest(sizes)?;
-    let b = emptiest(sizes)?;
-    if u32::from(sizes[a.0 as usize]) < u32::from(sizes[b.0 as usize]) + 2 {
-        return None;
-    }
-    Some(TwoRounds { a, b })
 }
 
 // One meeting less in the first round, and one more in the second.

@@ -1,10 +1,10 @@
 -- Where there is a fullest round there is an emptiest, and both are rounds.
 use Rattle.std.proofs.Common.{length, slice_index}
 use Rattle.balance.proofs.ExtremesFound.{fullest_there, emptiest_there, emptiest_not_none}
-use Rattle.balance.proofs.sizes.uneven_rounds.Goals as goal
+use Rattle.balance.proofs.searching.uneven_rounds.Goals as goal
 
-pub returns-in_err-b : goal.returns-in_err-b
-returns-in_err-b c = absurd (emptiest_not_none (length c.args.sizes.now) (slice_index c.args.sizes.now) c.in_ok-a.a.0 c.in_ok-a.ensures c.in_err-b.ensures)
+pub returns-in_err-b-clause-rounds : goal.returns-in_err-b-clause-rounds
+returns-in_err-b-clause-rounds c = absurd (emptiest_not_none (length c.args.sizes.now) (slice_index c.args.sizes.now) c.in_ok-a.a.0 c.in_ok-a.ensures c.in_err-b.ensures)
 
 pub bounds-sizes-a : goal.bounds-sizes-a
 bounds-sizes-a c = fullest_there (length c.args.sizes.now) (slice_index c.args.sizes.now) c.in_ok-a.a.0 c.in_ok-a.ensures
