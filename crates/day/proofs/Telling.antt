@@ -1,16 +1,18 @@
--- What is told is what the rule says: slices that are long enough for 120 parties and 4,000 rounds are refused for no list and no row.
--- Assumes nothing.
-use Rattle.std.proofs.Common.{◌≡◌, ℕ, ◌*◌, ◌≤◌, List, mul-le-mul_right, arith}
+-- What is told is what the rule says, and as the call promises: slices that are long enough for 120 parties and 4,000 rounds are
+-- refused for no list and no row. Assumes nothing.
+use Rattle.std.proofs.Common.{◌≡◌, ℕ, ◌*◌, ◌≤◌, List, Ok, Err, Result, IfOk, mul-le-mul_right, arith}
+use Rattle.meetings.specs.declared.refusal.Refusal.{Refusal}
 use Rattle.meetings.specs.Bytes.{read_list}
 use Rattle.meetings.specs.Lists.{most, most_meetings}
 use Rattle.meetings.specs.Refusals.{then}
 use Rattle.meetings.specs.RoundTrips.{AllBytes}
 use Rattle.meetings.proofs.Accepted.{read_then_written}
+use Rattle.changes.specs.declared.changed.Changed.{Changed}
 use Rattle.changes.specs.Bytes.{read_row}
 use Rattle.changes.specs.Numbered.{whole}
-use Rattle.changes.specs.Told.{answer_of}
+use Rattle.changes.specs.Told.{OfRow, RowPromised, answer_of}
 use Rattle.changes.proofs.LentEnough.{read_enough, then_same}
-use Rattle.day.specs.Reports.{told_of}
+use Rattle.day.specs.Reports.{ToldAsPromised, told_of}
 
 pub told_exactly : (day changes : List ℕ) (long_rounds long_groups long_stations : ℕ) → AllBytes day → AllBytes changes → most_meetings ≤ long_rounds → most * most_meetings ≤ long_groups → most * most_meetings ≤ long_stations → then (read_list day) (λ d. then (read_row (whole d) changes) (λ cs. answer_of d cs long_rounds long_groups long_stations)) ≡ told_of day changes
 told_exactly day changes lr lg ls byte byte' er eg es =
@@ -20,3 +22,10 @@ told_exactly day changes lr lg ls byte byte' er eg es =
   where
     wide : (n long : ℕ) → n ≤ most → most * most_meetings ≤ long → n * most_meetings ≤ long
     wide n long few enough = omega (arith, mul-le-mul_right most_meetings few)
+
+-- what is told is as the call promises; what the lent slices hold after it is not told
+pub told_promised : {X : Type 0} (means : X → List Changed) (day changes xs : List ℕ) (r : Result X Refusal) → IfOk r (λ ts. OfRow day changes (λ d cs. RowPromised d cs (means ts) xs)) → IfOk r (λ ts. OfRow day changes (λ d cs. ToldAsPromised d cs (means ts)))
+told_promised means day changes xs (Ok ts) h = λ d cs one other.
+    let promised = h d cs one other in
+    record { first = promised.first; last = promised.last; each = promised.each }
+told_promised means day changes xs (Err e) h = tt
