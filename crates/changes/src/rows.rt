@@ -134,13 +134,5 @@ pub(crate) fn make_row(
 {
     no_rounds_from(rounds, row.list.meetings().len());
     kept.begin(rounds);
-    make_each(
-        row,
-        shape,
-        rounds,
-        group_rows,
-        station_rows,
-        kept,
-        answers,
-    );
+    make_each(row, shape, rounds, group_rows, station_rows, kept, answers);
 }

@@ -1,9 +1,9 @@
 // Making a row of changes on a day.
-ghost use Rattle.std.specs.Prelude.{◌≡◌, ◌*◌, ◌≤◌, length, IfOk, vec_items};
+ghost use Rattle.std.specs.Prelude.{◌≡◌, ℕ, ◌*◌, ◌≤◌, List, length, IfOk, vec_items};
 ghost use Rattle.meetings.specs.Lists.{most, most_meetings};
 ghost use Rattle.meetings.specs.Refusals.{Answers, IfMemory};
-ghost use Rattle.changes.specs.Told.{OfRow};
-ghost use Rattle.day.specs.Reports.{ToldAsPromised, told_of};
+ghost use Rattle.changes.specs.Told.{OfRow, RowPromised};
+ghost use Rattle.day.specs.Reports.{told_of};
 
 use changes::{Changed, change_bytes};
 use meetings::Refusal;
@@ -35,16 +35,15 @@ fn made_in(
     requires groups { most * most_meetings ≤ length group_rows.old }
     requires stations { most * most_meetings ≤ length station_rows.old }
     ensures told { Answers vec_items result (told_of day.now changes.now) }
-    ensures promised { IfOk result (λ ts. OfRow day.now changes.now (λ d cs. ToldAsPromised d cs ts.items)) }
+    ensures promised { IfOk result (λ ts. OfRow day.now changes.now (λ d cs. RowPromised d cs ts.items rounds.new)) }
 {
     change_bytes(heap, day, changes, rounds, group_rows, station_rows)
 }
 
-// What is told of each change of the row that the bytes say. Each of them leaves a day that stands: a plan of the fewest rounds, within
-// the rooms and even, made from the one before.
+// What is told of each change, and that there are rounds of the last day of which the promise of a row of changes holds.
 pub(crate) fn told_of(heap: Global, day: &[u8], changes: &[u8]) -> Result<Vec<Changed>, Refusal>
     ensures told { Answers vec_items result (told_of day.now changes.now) }
-    ensures promised { IfOk result (λ ts. OfRow day.now changes.now (λ d cs. ToldAsPromised d cs ts.items)) }
+    ensures promised { IfOk result (λ ts. OfRow day.now changes.now (λ d cs. (xs : List ℕ) × RowPromised d cs ts.items xs)) }
 {
     let mut rounds = lent(heap, MOST_MEETINGS)?;
     let mut group_rows = lent(heap, MOST_ENTRIES)?;
