@@ -78,7 +78,7 @@ module _ (bs : List ℕ) (at : ℕ) (byte : AllBytes bs) (here : at < length bs)
 
   stood_one : (c d : Change) (x : ℕ) → get_or bs at 0 ≡ x → bytes_of_change c ≡ x ∷ [] → width_of c ≡ 1 → accepted c ≡ accepted d → Stood d
   stood_one c d x kind bytes wide e =
-      rw (← same _ _ e, bytes, wide, ← kind) (drop_more bs at 0 here)
+      rw (← same _ _ e, wide) (drop_more bs at 0 here ∙ ap (λ y. (y ∷ []) ++ drop (at + 1) bs) kind ∙ ap (λ l. l ++ drop (at + 1) bs) (sym bytes))
 
   -- the kind is one of four
   kinds : (x : ℕ) (a b g f : Bool) → get_or bs at 0 ≡ x → (a ≡ true → x ≡ 0) → (b ≡ true → x ≡ 1) → (g ≡ true → x ≡ 2) → (f ≡ true → x ≡ 3) → (c : Change) → cond a (then (meeting_at bs (at + 1) n k) (λ m. accepted (Add m))) (cond b (then (id_at bs (at + 1)) (λ i. accepted (Drop i))) (cond g (accepted GiveRoomUp) (cond f (accepted GetRoom) (refused 6 z)))) ≡ accepted c → Stood c

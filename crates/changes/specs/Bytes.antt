@@ -1,10 +1,11 @@
 -- The bytes of a row of changes: what they say, or why they are refused, and how a row is written. Assumes nothing.
-use Rattle.std.specs.Prelude.{ℕ, zero, suc, ◌+◌, ◌*◌, ◌/◌, ◌%◌, Bool, true, cond, ◌&&◌, List, [], ◌∷◌, ◌++◌, length, ◌==◌, nat_le, nat_lt, slice_index}
+use Rattle.std.specs.Prelude.{ℕ, zero, suc, ◌+◌, ◌*◌, Bool, true, cond, ◌&&◌, List, [], ◌∷◌, ◌++◌, length, ◌==◌, nat_le, nat_lt, slice_index}
 use Rattle.meetings.specs.declared.numbers.MeetingId.{MeetingId}
 use Rattle.meetings.specs.Bytes.{meeting_at}
 use Rattle.meetings.specs.Refusals.{Outcome, accepted, refused, then}
 use Rattle.changes.specs.declared.change.Change.{Change}
 use Rattle.changes.specs.declared.change.Change.TheVariants.{Add, Drop, GetRoom, GiveRoomUp}
+use Rattle.changes.specs.Kinds.{number_of, values_of}
 use Rattle.changes.specs.Numbered.{Numbered, can, changed}
 
 abbrev pub meeting_id : ℕ → MeetingId
@@ -48,10 +49,7 @@ read_row v bs = changes_at v bs (length bs) 0 []
 
 -- how a change is written
 abbrev pub bytes_of_change : Change → List ℕ
-bytes_of_change (Add m) = 0 ∷ m.group.0 ∷ m.station.0 ∷ []
-bytes_of_change (Drop i) = 1 ∷ i.0 % 256 ∷ i.0 / 256 ∷ []
-bytes_of_change GiveRoomUp = 2 ∷ []
-bytes_of_change GetRoom = 3 ∷ []
+bytes_of_change c = number_of c ∷ values_of c
 
 abbrev pub bytes_of_changes : List Change → List ℕ
 bytes_of_changes [] = []

@@ -9,6 +9,8 @@ mod random;
 #[cfg(test)]
 mod rounds;
 mod search;
+mod stale;
 
-pub use lists::bytes_of;
+pub use lists::{bytes_of, list_of};
 pub use random::Random;
+pub use stale::noise;

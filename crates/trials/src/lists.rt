@@ -1,7 +1,11 @@
 // Lists of a few lines.
 ghost use Rattle.std.specs.Prelude.{◌≡◌, IfOk};
+ghost use Rattle.meetings.specs.Bytes.{read_list};
+ghost use Rattle.meetings.specs.Held.{contents};
+ghost use Rattle.meetings.specs.Refusals.{Answers};
 ghost use Rattle.trials.specs.Bytes.{bytes_of_list};
 
+use meetings::{MeetingList, Refusal, read};
 use std::alloc::{AllocError, Global};
 
 // The bytes of a list, its meetings given by their groups and their stations. A number of meetings that two bytes do not hold
@@ -22,4 +26,18 @@ pub fn bytes_of(
         bytes.extend_from_slice(&[*group, *station])?;
     }
     Ok(bytes)
+}
+
+// The list that these bytes say.
+pub fn list_of(
+    heap: Global,
+    groups: u8,
+    stations: u8,
+    rooms: u8,
+    meetings: &[(u8, u8)],
+) -> Result<MeetingList, Refusal>
+    ensures { Answers contents result (read_list (bytes_of_list groups stations rooms meetings.now)) }
+{
+    let bytes = bytes_of(heap, groups, stations, rooms, meetings)?;
+    read(heap, &bytes)
 }

@@ -4,22 +4,10 @@ use crate::number::number_of_rounds;
 use crate::plans::is_plan;
 use crate::rule::PartialPlan;
 use balance::Planned;
-use meetings::{MeetingList, Refusal, read};
+use meetings::MeetingList;
 use std::alloc::Global;
 use std::process::Abort;
 use std::test::Fail;
-use trials::bytes_of;
-
-pub(crate) fn list_of(
-    heap: Global,
-    groups: u8,
-    stations: u8,
-    rooms: u8,
-    meetings: &[(u8, u8)],
-) -> Result<MeetingList, Refusal> {
-    let bytes = bytes_of(heap, groups, stations, rooms, meetings)?;
-    read(heap, &bytes)
-}
 
 // How many meetings a round has.
 pub(crate) fn size(rounds: &[u16], round: u16) -> usize {

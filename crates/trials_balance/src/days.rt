@@ -1,8 +1,9 @@
 // Each of five groups with each of five stations, and the largest lists.
-use crate::checks::{check_planned, is_planned, list_of, size};
+use crate::checks::{check_planned, is_planned, size};
 use crate::lent::{Lengths, Slices};
 use balance::Planned;
 use std::test::Fail;
+use trials::list_of;
 
 // Five rooms are full in five rounds, and four rooms in four of seven.
 #[test]

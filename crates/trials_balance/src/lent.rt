@@ -3,6 +3,7 @@ use crate::rule::PartialPlan;
 use balance::{Planned, plan, plan_bytes};
 use meetings::{MeetingId, MeetingList, Refusal, Round, Side};
 use std::alloc::{AllocError, Global};
+use trials::noise;
 
 // What stands for a meeting without a round, and in a row for a round without a meeting: a lent slice is of u16. It is said
 // once more here: what the tests expect does not lean on what the library calls none.
@@ -44,11 +45,6 @@ pub(crate) struct Slices {
     pub(crate) station_rows: Vec<u16>,
 }
 
-// So many entries, of which no two neighbours are alike, and none is a round or a meeting of a test.
-fn stale(heap: Global, length: usize) -> Result<Vec<u16>, AllocError> {
-    (60000..61000u16).cycle().take(length).collect(heap)
-}
-
 // The round of each meeting, in its place. `u16::MAX` cuts none off: a list has 4,000 meetings at most.
 fn rounds(heap: Global, plan: &PartialPlan, meetings: usize) -> Result<Vec<u16>, AllocError> {
     (0..u16::MAX)
@@ -84,9 +80,9 @@ impl Slices {
     // As they are lent.
     pub(crate) fn new(heap: Global, lengths: Lengths) -> Result<Slices, AllocError> {
         Ok(Slices {
-            rounds: stale(heap, lengths.rounds)?,
-            group_rows: stale(heap, lengths.group_rows)?,
-            station_rows: stale(heap, lengths.station_rows)?,
+            rounds: noise(heap, lengths.rounds)?,
+            group_rows: noise(heap, lengths.group_rows)?,
+            station_rows: noise(heap, lengths.station_rows)?,
         })
     }
 

@@ -1,10 +1,10 @@
 // Random lists beside the rule written once more.
-use crate::checks::{check_planned, list_of};
+use crate::checks::check_planned;
 use crate::lent::Lengths;
 use crate::number::number_of_rounds;
 use std::alloc::{AllocError, Global};
 use std::test::Fail;
-use trials::Random;
+use trials::{Random, list_of};
 
 // Whether the group and the station of a meeting both have fewer meetings than the most. They are counted apart, since each is
 // another part of the pair.

@@ -1,11 +1,12 @@
 // Slices that are too short, just long enough or very long, and a list without meetings.
-use crate::checks::{check_planned, list_of};
+use crate::checks::check_planned;
 use crate::lent::{Lengths, Slices};
 use balance::{Planned, plan};
 use meetings::{Lent, MeetingList, Refusal};
 use std::alloc::Global;
 use std::process::Abort;
 use std::test::Fail;
+use trials::list_of;
 
 // A slice is refused, and nothing lent has changed.
 fn check_short(

@@ -1,5 +1,5 @@
 // Other ways to plan look as good at first. On some days they take rounds too many, and planning does not.
-use crate::checks::{is_planned, list_of};
+use crate::checks::is_planned;
 use crate::lent::{Lengths, Slices};
 use crate::put_ways::{busiest_first, first_fit, wrong_end};
 use crate::room_ways::{rooms_forgotten, round_by_round, single_moves};
@@ -8,6 +8,7 @@ use fewest::fewest_rounds;
 use meetings::MeetingList;
 use std::alloc::{AllocError, Global};
 use std::test::Fail;
+use trials::list_of;
 
 #[derive(Clone, Copy, Debug)]
 enum Way {

@@ -1,11 +1,12 @@
 // Worked days: the rounds and the looks follow from the rule by hand.
-use crate::checks::{is_planned, list_of};
+use crate::checks::is_planned;
 use crate::lent::{Lengths, Slices};
 use balance::Planned;
 use meetings::MeetingList;
 use std::alloc::Global;
 use std::process::Abort;
 use std::test::Fail;
+use trials::list_of;
 
 // One chain of one meeting: station 0 has meeting 2 in round 0, and the group of that is free in round 1.
 pub(crate) const CHAIN_OF_ONE: [(u8, u8); 4] = [(1, 1), (0, 1), (2, 0), (0, 0)];

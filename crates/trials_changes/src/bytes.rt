@@ -1,9 +1,10 @@
 // Rows of changes as bytes: what they say, and each refusal at its place.
-use crate::checks::{add, drop_one, list_of, spread};
+use crate::checks::{add, drop_one, spread};
 use changes::Change::{GetRoom, GiveRoomUp};
 use changes::{Change, read_changes, write_changes};
 use meetings::Refusal;
 use std::test::Fail;
+use trials::list_of;
 
 fn told<T: Drop>(answer: Result<T, Refusal>) -> Option<(u8, usize)> {
     let refusal = answer.err()?;

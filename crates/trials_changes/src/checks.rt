@@ -2,23 +2,12 @@
 use crate::day::{Day, NONE};
 use crate::lent::{Lengths, Slices};
 use changes::{Change, Changed};
-use meetings::{Group, Meeting, MeetingId, MeetingList, Refusal, Station, read};
+use meetings::{Group, Meeting, MeetingId, MeetingList, Refusal, Station};
 use std::alloc::{AllocError, Global};
 use std::process::Abort;
 use std::test::Fail;
-use trials::bytes_of;
+use trials::list_of;
 use trials_balance::is_plan;
-
-pub(crate) fn list_of(
-    heap: Global,
-    groups: u8,
-    stations: u8,
-    rooms: u8,
-    meetings: &[(u8, u8)],
-) -> Result<MeetingList, Refusal> {
-    let bytes = bytes_of(heap, groups, stations, rooms, meetings)?;
-    read(heap, &bytes)
-}
 
 // So many meetings of 120 groups and 120 stations, of which none has more than 34, in a mixed order.
 pub(crate) fn spread(heap: Global, many: u16, rooms: u8) -> Result<MeetingList, Refusal> {

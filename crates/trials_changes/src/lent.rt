@@ -1,8 +1,9 @@
 // The three slices that are lent, and what they hold before and after.
 use crate::day::{Day, NONE};
-use changes::{Change, Changed, change_day};
+use changes::{Change, Changed, change_bytes, change_day};
 use meetings::{MeetingList, Refusal, Side};
 use std::alloc::{AllocError, Global};
+use trials::noise;
 
 // How long the slices are: rounds, rows of groups, rows of stations.
 #[derive(Clone, Copy)]
@@ -38,11 +39,6 @@ pub(crate) struct Slices {
     pub(crate) rounds: Vec<u16>,
     pub(crate) group_rows: Vec<u16>,
     pub(crate) station_rows: Vec<u16>,
-}
-
-// So many entries, of which no two neighbours are alike, and none is a round or a meeting of a test.
-fn noise(heap: Global, length: usize) -> Result<Vec<u16>, AllocError> {
-    (60000..61000u16).cycle().take(length).collect(heap)
 }
 
 // What is written, and behind it what was there before.
@@ -114,6 +110,22 @@ impl Slices {
         change_day(
             heap,
             list,
+            changes,
+            &mut self.rounds,
+            &mut self.group_rows,
+            &mut self.station_rows,
+        )
+    }
+
+    pub(crate) fn change_bytes(
+        &mut self,
+        heap: Global,
+        day: &[u8],
+        changes: &[u8],
+    ) -> Result<Vec<Changed>, Refusal> {
+        change_bytes(
+            heap,
+            day,
             changes,
             &mut self.rounds,
             &mut self.group_rows,

@@ -9,6 +9,8 @@ mod checks;
 #[cfg(test)]
 mod day;
 #[cfg(test)]
+mod from_bytes;
+#[cfg(test)]
 mod lent;
 #[cfg(test)]
 mod limits;

@@ -1,5 +1,5 @@
 // The limits: rooms from 1 to 120, and 4,000 numbers, those of dropped meetings among them.
-use crate::checks::{add, drop_one, list_of, spread};
+use crate::checks::{add, drop_one, spread};
 use crate::day::NONE;
 use crate::lent::{Lengths, Slices};
 use changes::Change::{GetRoom, GiveRoomUp};
@@ -7,6 +7,7 @@ use changes::{Change, Changed};
 use meetings::{MeetingList, Refusal};
 use std::alloc::Global;
 use std::test::Fail;
+use trials::list_of;
 
 // The change that cannot be made, or None where all can. The slices are long enough for two pairs and for a full day.
 fn refused_at(heap: Global, list: &MeetingList, changes: &[Change]) -> Result<Option<usize>, Fail> {

@@ -1,5 +1,5 @@
 // Random rows of changes on small days, beside the rule written once more.
-use crate::checks::{add, check_row, drop_one, list_of};
+use crate::checks::{add, check_row, drop_one};
 use crate::day::{Day, moved};
 use crate::lent::Lengths;
 use changes::Change;
@@ -8,7 +8,7 @@ use meetings::{MeetingList, Side};
 use std::alloc::Global;
 use std::process::Abort;
 use std::test::Fail;
-use trials::Random;
+use trials::{Random, list_of};
 
 // How many groups and stations.
 #[derive(Clone, Copy)]

@@ -1,5 +1,5 @@
 // What is refused, at its place, and in which order; and slices that are just long enough.
-use crate::checks::{add, check_row, drop_one, list_of, ruled};
+use crate::checks::{add, check_row, drop_one, ruled};
 use crate::lent::{Lengths, Slices};
 use changes::Change;
 use changes::Change::{GetRoom, GiveRoomUp};
@@ -7,6 +7,7 @@ use meetings::MeetingList;
 use std::alloc::Global;
 use std::process::Abort;
 use std::test::Fail;
+use trials::list_of;
 
 // Three groups, two stations and two rooms. The five meetings take three rounds, as station 0 has three.
 fn small_list(heap: Global) -> Result<MeetingList, Fail> {

@@ -1,5 +1,5 @@
 // Worked changes: the rounds, the looks and how many were moved follow from the rule by hand.
-use crate::checks::{add, check_row, drop_one, list_of, ruled};
+use crate::checks::{add, check_row, drop_one, ruled};
 use crate::day::NONE;
 use crate::lent::Lengths;
 use changes::Change::{GetRoom, GiveRoomUp};
@@ -7,6 +7,7 @@ use changes::{Change, Changed};
 use std::alloc::Global;
 use std::process::Abort;
 use std::test::Fail;
+use trials::list_of;
 
 // A day and a row of changes: the meetings of five groups and five stations, rooms, and the changes; then for each change the
 // rounds, the looks and how many were moved, and in the end the round of each meeting.
