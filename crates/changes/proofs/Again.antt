@@ -22,7 +22,6 @@ pub record MadeAgain (n k r : ℕ) (v : Numbered) (xs : List ℕ) (q : Placed) :
   pub plan : Partial r v.list.meetings q.rounds
   pub even : Evened r q.rounds
   pub has : (i : ℕ) → i < length v.list.meetings → is_there v i ≡ true → round_of q.rounds i < r
-  pub has_none : (i : ℕ) → i < length v.list.meetings → is_there v i ≡ false → round_of q.rounds i ≡ none
   pub list : map has_round q.rounds ≡ v.there
   pub looks : q.looks ≤ length (waiting v.there xs) * (1 + n + k) + far r (size (put_waiting r v xs).rounds) * (n + k)
 
@@ -60,7 +59,6 @@ module _ (n k r : ℕ) (v : Numbered) (exist : Exist n k v.list.meetings) (few :
     plan = evens_again.plan;
     even = evens_again.even;
     has = has_one;
-    has_none = has_no;
     list = ext_get_or false (map has_round (made_again r v xs).rounds) v.there (omega (arith, length-map (made_again r v xs).rounds has_round, evens_again.plan.each)) each;
     looks = omega (arith, evens_again.looks, puts_waiting.looks);
   }

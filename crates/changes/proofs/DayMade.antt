@@ -15,7 +15,7 @@ use Rattle.changes.specs.declared.change.Change.{Change}
 use Rattle.changes.specs.declared.tested.Tested.{Tested}
 use Rattle.changes.specs.Days.{first_day}
 use Rattle.changes.specs.Numbered.{Numbered, changed, tested, whole}
-use Rattle.changes.specs.RowOn.{LongEnough, shape_of_row}
+use Rattle.changes.specs.RowOn.{shape_of_row}
 use Rattle.changes.specs.Rows.{CanAll, made_all, rounds_after}
 use Rattle.changes.specs.Tested.{row_tested, tested_lists}
 use Rattle.changes.specs.Told.{answer_of, told}
@@ -104,13 +104,6 @@ module _ (d : Contents) (cs : List Change) (t : Tested) (is : RowTested d cs t) 
 
     pub told_as : answer_of d cs lr lg ls ≡ accepted (told (first_day d) cs)
     told_as = answer_is ∙ ap (λ o. then o (λ z. accepted (told (first_day d) cs))) (sym ok)
-
-    pub enough_for_plan : LongEnough d lr lg ls
-    enough_for_plan = record {
-      rounds = omega (arith, more, long_rounds);
-      groups = omega (arith, shape_fits.groups, most_so);
-      stations = omega (arith, shape_fits.stations, most_so);
-    }
 
     pub many_within : ManyWithin z (max first (largest (vec_items t.rounds)))
     many_within = rw shape_fits.is (omega (arith, shape_fits.groups, most_is, top_is), omega (arith, shape_fits.stations, most_is, top_is))

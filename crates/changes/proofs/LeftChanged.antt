@@ -146,10 +146,6 @@ module _ (v : Numbered) (long : length v.there ≡ length v.list.meetings) where
   }
 
 -- the same after a row that can be made
-pub made_long : (v : Numbered) (cs : List Change) → length v.there ≡ length v.list.meetings → length (made_all v cs).there ≡ length (made_all v cs).list.meetings
-made_long v [] long = long
-made_long v (c ∷ cs) long = made_long (changed v c) cs (long_changed v long c)
-
 pub made_proper : (v : Numbered) (cs : List Change) → length v.there ≡ length v.list.meetings → Proper v.list → CanAll v cs → Proper (made_all v cs).list
 made_proper v [] long proper may = proper
 made_proper v (c ∷ cs) long proper may =

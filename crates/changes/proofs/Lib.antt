@@ -26,6 +26,7 @@ pub mod ReadTurns
 pub mod RowAccepted
 pub mod RowFirst
 pub mod RowParts
+pub mod RowRefused
 pub mod RowTurns
 pub mod RowWritten
 pub mod SizesKept

@@ -4,12 +4,11 @@ use Rattle.std.proofs.Common.{◌≡◌, ℕ, ◌<◌, ◌≤◌, true, List, []
 use Rattle.meetings.specs.declared.numbers.Meeting.{Meeting}
 use Rattle.chains.specs.declared.board.Board.{Board}
 use Rattle.chains.specs.declared.found.Found.{Found}
-use Rattle.chains.specs.Boards.{Becomes, meetings_on, rounds_on}
+use Rattle.chains.specs.Boards.{meetings_on, rounds_on}
 use Rattle.chains.specs.Chains.{holds}
 use Rattle.chains.specs.Finding.{found_in, with_new}
 use Rattle.chains.specs.Partial.{round_of}
 use Rattle.chains.specs.Statements.{Once}
-use Rattle.chains.proofs.BoardKept.{becomes_then}
 use Rattle.placing.specs.OnBoard.{PutOn}
 use Rattle.placing.specs.Putting.{Placed, placed}
 use Rattle.placing.specs.Steps.{all_named}
@@ -93,10 +92,6 @@ module _ (d : Day) (c : Change) (e e1 e2 f : Board) (from to : ℕ) (b : BeforeC
 
   pub touched_each : Once (found_in tw)
   touched_each = touched_once d c b.stands b.may _ (λ i. refl) (found_in tw) touched_is
-
-  -- nothing was written but the rows of the board
-  pub becomes_so : Becomes e f (rounds_on f)
-  becomes_so = becomes_then e e2 f _ _ _ (becomes_then e e1 e2 _ _ _ notes.board rest.board refl) again.board (sym again.board.rounds)
 
   -- the rounds before are those that are noted
   module _ (before : (i : ℕ) → round_of bs i ≡ round_of (rounds_on e) i) (long : length (meetings_on e) ≤ length bs) where

@@ -10,7 +10,7 @@ use Rattle.chains.specs.declared.found.Found.{Found}
 use Rattle.chains.specs.Boards.{Becomes, meetings_on, rounds_on}
 use Rattle.chains.specs.Finding.{Finds, Unused, among_all, found_in, with_new}
 use Rattle.chains.specs.Rows.{ManyWithin}
-use Rattle.chains.proofs.BoardKept.{becomes_same, becomes_then}
+use Rattle.chains.proofs.BoardKept.{becomes_then}
 use Rattle.chains.proofs.ChainTurns.{finds_then}
 use Rattle.chains.proofs.RowsRead.{side_rows}
 use Rattle.chains.proofs.WithNew.{new_append}
@@ -18,7 +18,6 @@ use Rattle.placing.specs.OnBoard.{PutOn}
 use Rattle.placing.specs.Putting.{Placed, placed, put}
 use Rattle.placing.specs.Statements.{PutIn, Ready}
 use Rattle.placing.specs.Steps.{all_named, put_steps}
-use Rattle.placing.proofs.AllTurns.{finds_same}
 use Rattle.balance.specs.Sizes.{sizes_of}
 use Rattle.balance.proofs.Counted.{sizes_long}
 use Rattle.changes.specs.Making.{put_each, put_each_steps}
@@ -37,18 +36,6 @@ pub record PuttingOn (d e : Board) (v w tv tw : Found) (r : ℕ) (is ns : List �
   pub among : among_all tw ≡ among_all tv
   pub touched : with_new (found_in tw) (all_named (put_each_steps r (meetings_on d) (drop t is) (rounds_on e))) ≡ with_new (found_in tv) (all_named (put_each_steps r (meetings_on d) is (rounds_on d)))
   pub few : looks ≤ t * (1 + none)
-
-pub putting_starts : (d : Board) (v tv : Found) (r m : ℕ) (is ns : List ℕ) → CanPut d r is → ns ≡ sizes_of (length ns) (rounds_on d) → Unused v m → PuttingOn d d v v tv tv r is ns 0 0
-putting_starts d v tv r m is ns can counted unused = record {
-  board = becomes_same d (rounds_on d) refl;
-  can = can;
-  rule = refl;
-  counted = counted;
-  forgotten = finds_same v m unused;
-  among = refl;
-  touched = refl;
-  few = omega arith;
-}
 
 -- the first that waits can be put in
 pub first_ready : (e : Board) (r i : ℕ) (is : List ℕ) → CanPut e r (i ∷ is) → Ready e.shape.groups e.shape.stations r (meetings_on e) (rounds_on e) i

@@ -14,7 +14,7 @@ use Rattle.changes.specs.declared.change.Change.{Change}
 use Rattle.changes.specs.declared.change.Change.TheVariants.{Add, Drop, GetRoom, GiveRoomUp}
 use Rattle.changes.specs.Bytes.{bytes_of_change, bytes_of_changes, change_at, changes_at, id_at, next_at, read_row, width_of}
 use Rattle.changes.specs.Numbered.{Numbered, can, changed, rounds_for, tested}
-use Rattle.changes.specs.Rows.{CanAll, OnlyWhatCan, ReadThenWritten, TestedAs, TestedAsMade, made_all, rounds_after}
+use Rattle.changes.specs.Rows.{CanAll, OnlyWhatCan, ReadThenWritten, TestedAsMade, made_all, rounds_after}
 
 -- a row that can be made, as it is tested
 pub tested_as_made : TestedAsMade
@@ -116,14 +116,14 @@ said_more v bs at came cs c may stood more = record {
   bytes = stood ∙ ap (λ l. bytes_of_change c ++ l) more.bytes;
 }
 
-wide : (c : Change) → 1 ≤ width_of c
+pub wide : (c : Change) → 1 ≤ width_of c
 wide (Add m) = omega arith
 wide (Drop i) = omega arith
 wide GiveRoomUp = omega arith
 wide GetRoom = omega arith
 
 -- the next change, which can be made
-next_accepted : (v : Numbered) (bs : List ℕ) (at z : ℕ) (c : Change) → next_at v bs at z ≡ accepted c → (change_at bs at v.list.groups v.list.stations z ≡ accepted c) × (can v c ≡ true)
+pub next_accepted : (v : Numbered) (bs : List ℕ) (at z : ℕ) (c : Change) → next_at v bs at z ≡ accepted c → (change_at bs at v.list.groups v.list.stations z ≡ accepted c) × (can v c ≡ true)
 next_accepted v bs at z c e =
     let one = then_accepted (change_at bs at v.list.groups v.list.stations z) (λ c. cond (can v c) (accepted c) (refused 6 z)) c e in
     let may = only_if (can v one.0) 6 z (accepted one.0) c one.2 in
@@ -148,12 +148,12 @@ read_then_written v bs cs byte e =
     let all : cs ≡ said.rest = said.whole in
     rw all (said.can, sym said.bytes)
 
--- of what is answered, if anything is: it is written as it stood, and it is tested as what can be made
+-- of what is answered, if anything is: it is written as it stood, and it can be made
 module _ (v : Numbered) (bs : List ℕ) (byte : AllBytes bs) where
   pub read_back : (o : Result (Vec Change Global) Refusal) → Answers vec_items o (read_row v bs) → IfOk o (λ cs. bytes_of_changes cs.items ≡ bs)
   read_back (Ok cs) answer = (read_then_written v bs cs.items byte (accepted_from_ok vec_items cs answer)).1
   read_back (Err e) answer = tt
 
-  pub read_made : (o : Result (Vec Change Global) Refusal) → Answers vec_items o (read_row v bs) → IfOk o (λ cs. TestedAs v cs.items)
-  read_made (Ok cs) answer = tested_as_made v cs.items 0 [] (read_then_written v bs cs.items byte (accepted_from_ok vec_items cs answer)).0
-  read_made (Err e) answer = tt
+  pub read_can : (o : Result (Vec Change Global) Refusal) → Answers vec_items o (read_row v bs) → IfOk o (λ cs. CanAll v cs.items)
+  read_can (Ok cs) answer = (read_then_written v bs cs.items byte (accepted_from_ok vec_items cs answer)).0
+  read_can (Err e) answer = tt

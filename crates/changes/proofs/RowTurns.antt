@@ -185,12 +185,10 @@ module _ (d : Day) (cs : List Change) (ms : List Meeting) (rs : List ℕ) (z : S
 -- what one turn asks, of the first n' meetings and rounds
 pub record TurnReady (ms ms' : List Meeting) (z : Shape) (xs gs ss : List ℕ) (k : Kept) (m s n' from to : ℕ) (e : Day) (c : Change) : Type 0 where
   pub meetings_enough : n' ≤ length ms'
-  pub rounds_enough : n' ≤ length xs
   pub before : BeforeChange e c (take (n' - 0) ms') z (take (n' - 0) xs) from to
   pub held : Holds (take (n' - 0) ms') z (take (n' - 0) xs) gs ss
   pub beside : Beside z (take (n' - 0) xs) k (length (vec_items k.before)) (length (vec_items k.sizes))
   pub long : length (take (n' - 0) ms') ≤ length (vec_items k.before)
-  pub from_few : from ≤ length (vec_items k.sizes)
   pub to_few : to ≤ length (vec_items k.sizes)
   pub few : length (vec_items k.sizes) ≤ none
 
@@ -207,12 +205,10 @@ module _ (d : Day) (cs : List Change) (ms ms' : List Meeting) (rs : List ℕ) (z
   pub turn_ready : length ms ≤ m → s ≤ none → ((i : ℕ) → i < length rs → get_or rs i 0 ≤ s) → TurnReady ms ms' z xs gs' ss' k m s n' from to so_far.e c
   turn_ready long few all = record {
     meetings_enough = omega (arith, le, ap length same);
-    rounds_enough = omega (arith, le, long_rounds d cs ms rs z xs gs gs' ss ss' k m s n from t before now so_far c first n' many);
     before = rw (whole, same, to_first) (before_change d cs ms rs z xs gs gs' ss ss' k m s n from t before now so_far c first n' many);
     held = rw (whole, same) (held_first d cs ms rs z xs gs gs' ss ss' k m s n from t before now so_far c first n' many);
     beside = rw (whole, so_far.beside.room.meetings, so_far.beside.room.rounds) (beside_first d cs ms rs z xs gs gs' ss ss' k m s n from t before now so_far c first n' many few);
     long = omega (arith, length-take-le (n' - 0) ms' (omega (arith, le, ap length same)), le, long, so_far.beside.room.meetings);
-    from_few = omega (arith, so_far.few_rounds, so_far.beside.room.rounds);
     to_few = omega (arith, to_first, all t (more_rounds d cs ms rs z xs gs gs' ss ss' k m s n from t before now so_far c first), so_far.beside.room.rounds);
     few = omega (arith, few, so_far.beside.room.rounds);
   }

@@ -67,7 +67,7 @@ module _ (bs : List ℕ) (at : ℕ) where
   change_written v z GiveRoomUp tail e may = rw (at_first 2 tail e).1 refl
   change_written v z GetRoom tail e may = rw (at_first 3 tail e).1 refl
 
-wide : (c : Change) → length (bytes_of_change c) ≡ width_of c
+pub wide : (c : Change) → length (bytes_of_change c) ≡ width_of c
 wide (Add m) = refl
 wide (Drop i) = refl
 wide GiveRoomUp = refl

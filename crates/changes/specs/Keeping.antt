@@ -1,6 +1,5 @@
 -- What is kept beside the board from one change to the next. Assumes nothing.
-use Rattle.std.specs.Prelude.{◌≡◌, ℕ, ◌≤◌, List, length, replicate, vec_capacity, vec_items}
-use Rattle.fewest.specs.Plans.{none}
+use Rattle.std.specs.Prelude.{◌≡◌, ℕ, ◌≤◌, List, length, vec_capacity, vec_items}
 use Rattle.chains.specs.declared.shapes.Shape.{Shape}
 use Rattle.chains.specs.Finding.{Unused}
 use Rattle.chains.specs.Partial.{round_of}
@@ -16,11 +15,6 @@ pub record Room (k : Kept) (z : Shape) (m r : ℕ) : Type 0 where
   pub ordered : RoomForTwo z (vec_capacity k.ordered)
   pub found : Unused k.found m
   pub touched : Unused k.touched m
-
--- at first
-pub record Blank (k : Kept) (z : Shape) (m r : ℕ) : Type 0 where
-  pub room : Room k z m r
-  pub before : vec_items k.before ≡ replicate m none
 
 -- beside a board of this shape with the rounds xs: their sizes, and these rounds as those before the next change
 pub record Beside (z : Shape) (xs : List ℕ) (k : Kept) (m r : ℕ) : Type 0 where

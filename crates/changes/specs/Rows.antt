@@ -1,11 +1,11 @@
 -- Rows of changes that can be made: what they come to, and that their bytes are read as they were written. Definitions and
 -- statements; assumes nothing.
-use Rattle.std.specs.Prelude.{◌≡◌, ℕ, true, List, [], ◌∷◌, ◌++◌}
+use Rattle.std.specs.Prelude.{◌≡◌, ℕ, ◌+◌, ◌<◌, true, false, List, [], ◌∷◌, ◌++◌, drop, length}
 use Rattle.meetings.specs.Lists.{Proper}
-use Rattle.meetings.specs.Refusals.{accepted}
+use Rattle.meetings.specs.Refusals.{accepted, refused}
 use Rattle.meetings.specs.RoundTrips.{AllBytes}
 use Rattle.changes.specs.declared.change.Change.{Change}
-use Rattle.changes.specs.Bytes.{bytes_of_changes, read_row, written_row}
+use Rattle.changes.specs.Bytes.{bytes_of_changes, next_at, read_row, written_row}
 use Rattle.changes.specs.Numbered.{Numbered, can, changed, rounds_for, tested}
 
 -- each change can be made when its turn comes
@@ -23,10 +23,6 @@ abbrev pub rounds_after : Numbered → List Change → List ℕ
 rounds_after v [] = []
 rounds_after v (c ∷ cs) = rounds_for (changed v c) ∷ rounds_after (changed v c) cs
 
--- a row is tested as what it comes to
-abbrev pub TestedAs : Numbered → List Change → Type 0
-TestedAs v cs = tested v cs 0 [] ≡ accepted (made_all v cs, rounds_after v cs)
-
 -- what can be made is tested as that
 abbrev pub TestedAsMade : Type 0
 TestedAsMade =
@@ -38,6 +34,36 @@ abbrev pub OnlyWhatCan : Type 0
 OnlyWhatCan =
     (v : Numbered) (cs : List Change) (i : ℕ) (rs : List ℕ) (p : Numbered × List ℕ) → tested v cs i rs ≡ accepted p →
     CanAll v cs
+
+-- the change at this place cannot be made, and all before it can
+pub record FirstThatCannot (v : Numbered) (cs : List Change) (p : ℕ) : Type 0 where
+  pub came : List Change
+  pub one : Change
+  pub rest : List Change
+  pub row : cs ≡ came ++ one ∷ rest
+  pub place : length came ≡ p
+  pub before : CanAll v came
+  pub cannot : can (made_all v came) one ≡ false
+
+-- A ROW IS REFUSED, by number 6, for the first change that cannot be made; the places are counted from i on
+abbrev pub RefusedAsFirst : Type 0
+RefusedAsFirst =
+    (v : Numbered) (cs : List Change) (i : ℕ) (rs : List ℕ) (number place : ℕ) → tested v cs i rs ≡ refused number place →
+    (number ≡ 6) × ((p : ℕ) × (place ≡ i + p) × FirstThatCannot v cs p)
+
+-- these bytes begin with changes that can be made, and what comes then is refused where it stands
+pub record FirstRefused (v : Numbered) (bs : List ℕ) (number place : ℕ) : Type 0 where
+  pub came : List Change
+  pub before : CanAll v came
+  pub bytes : bs ≡ bytes_of_changes came ++ drop (length (bytes_of_changes came)) bs
+  pub here : length (bytes_of_changes came) < length bs
+  pub next : next_at (made_all v came) bs (length (bytes_of_changes came)) (length came) ≡ refused number place
+
+-- BYTES ARE REFUSED for the first of them that say no change that can be made
+abbrev pub ReadAsFirst : Type 0
+ReadAsFirst =
+    (v : Numbered) (bs : List ℕ) (number place : ℕ) → AllBytes bs → read_row v bs ≡ refused number place →
+    FirstRefused v bs number place
 
 -- bytes that are accepted say what can be made, and are what it is written as
 abbrev pub ReadThenWritten : Type 0

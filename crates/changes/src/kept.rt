@@ -4,7 +4,7 @@ ghost use Rattle.meetings.specs.Refusals.{IfMemory};
 ghost use Rattle.fewest.specs.Plans.{none};
 ghost use Rattle.chains.specs.declared.shapes.Shape.{Shape};
 ghost use Rattle.balance.specs.Sizes.{sizes_of};
-ghost use Rattle.changes.specs.Keeping.{Blank, Room};
+ghost use Rattle.changes.specs.Keeping.{Room};
 
 use balance::count_rounds;
 use chains::{Found, NONE, Shape};
@@ -31,7 +31,7 @@ impl Kept {
         meetings: usize,
         rounds: u16,
     ) -> Result<Kept, Refusal>
-        ensures { IfMemory result (λ k. Blank k shape meetings rounds) }
+        ensures { IfMemory result (λ k. Room k shape meetings rounds) }
     {
         Ok(Kept {
             sizes: vec![in heap; 0u16; usize::from(rounds)]?,

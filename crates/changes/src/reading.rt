@@ -5,7 +5,7 @@ ghost use Rattle.meetings.specs.Refusals.{Answers, outcome};
 ghost use Rattle.changes.specs.Bytes.{bytes_of_changes, change_at, id_at, next_at, read_row, width_of};
 ghost use Rattle.changes.specs.Numbered.{can, whole};
 ghost use Rattle.changes.specs.Registered.{registered};
-ghost use Rattle.changes.specs.Rows.{TestedAs};
+ghost use Rattle.changes.specs.Rows.{CanAll};
 
 use crate::change::Change;
 use crate::register::Register;
@@ -88,7 +88,7 @@ fn row(heap: Global, list: &MeetingList, bytes: &[u8]) -> Result<Vec<Change>, Re
 pub fn read_changes(heap: Global, list: &MeetingList, bytes: &[u8]) -> Result<Vec<Change>, Refusal>
     ensures answer { Answers vec_items result (read_row (whole (contents list.now)) bytes.now) }
     ensures back { IfOk result (λ cs. bytes_of_changes cs.items ≡ bytes.now) }
-    ensures made { IfOk result (λ cs. TestedAs (whole (contents list.now)) cs.items) }
+    ensures can { IfOk result (λ cs. CanAll (whole (contents list.now)) cs.items) }
 {
     row(heap, list, bytes)
 }

@@ -5,7 +5,7 @@ ghost use Rattle.fewest.specs.Plans.{none};
 ghost use Rattle.chains.specs.Rows.{Holds};
 ghost use Rattle.balance.specs.Lent.{BoardLent};
 ghost use Rattle.changes.specs.Days.{Day, first_day};
-ghost use Rattle.changes.specs.Keeping.{Beside, Blank};
+ghost use Rattle.changes.specs.Keeping.{Beside, Room};
 ghost use Rattle.changes.specs.MakingOn.{AfterChange, BeforeChange};
 ghost use Rattle.changes.specs.RowOn.{CanMakeFirst, CanMakeRow, added, day_before, most_rounds};
 ghost use Rattle.changes.specs.Told.{last_day, told};
@@ -126,7 +126,7 @@ pub(crate) fn make_row(
     requires row { CanMakeFirst row.now shape (length rounds.old) }
     requires planned { take (length (contents row.now.list.now).meetings) rounds.old ≡ (first_day (contents row.now.list.now)).at }
     requires held { Holds (contents row.now.list.now).meetings shape (first_day (contents row.now.list.now)).at group_rows.old station_rows.old }
-    requires blank { Blank kept.old shape (length rounds.old) (most_rounds row.now) }
+    requires kept { Room kept.old shape (length rounds.old) (most_rounds row.now) }
     requires room { length answers.old.items + length row.now.changes.now ≤ vec_capacity answers.old }
     ensures rounds { rounds.new ≡ (last_day (first_day (contents row.now.list.now)) row.now.changes.now).at }
     ensures told { answers.new.items ≡ answers.old.items ++ told (first_day (contents row.now.list.now)) row.now.changes.now }

@@ -1,7 +1,7 @@
 // What is proved of changes for every day and every row, each as the contract of a function that does nothing.
 ghost use Rattle.changes.specs.Days.{FirstDayStands};
 ghost use Rattle.changes.specs.Statements.{EveryChange, EveryRow};
-ghost use Rattle.changes.specs.Rows.{OnlyWhatCan, ReadThenWritten, TestedAsMade, WrittenAsBytes, WrittenThenRead};
+ghost use Rattle.changes.specs.Rows.{OnlyWhatCan, ReadAsFirst, ReadThenWritten, RefusedAsFirst, TestedAsMade, WrittenAsBytes, WrittenThenRead};
 
 // The first day of a proper list stands.
 #[tactic(auto, using(crate::proofs::FirstDay::first_stands))]
@@ -19,6 +19,18 @@ pub fn rows_tested_as_made()
 #[tactic(auto, using(crate::proofs::RowAccepted::only_what_can))]
 pub fn accepted_rows_can_be_made()
     ensures { OnlyWhatCan }
+{}
+
+// A row is refused for the first change that cannot be made.
+#[tactic(auto, using(crate::proofs::RowRefused::refused_as_first))]
+pub fn rows_refused_for_the_first_that_cannot()
+    ensures { RefusedAsFirst }
+{}
+
+// Bytes are refused for the first of them that say no change that can be made.
+#[tactic(auto, using(crate::proofs::RowRefused::read_as_first))]
+pub fn bytes_refused_for_the_first_that_say_none()
+    ensures { ReadAsFirst }
 {}
 
 // Bytes that are accepted say a row that can be made, and are what that row is written as.
