@@ -1,9 +1,8 @@
 // Making a row of changes on a day.
-ghost use Rattle.std.specs.Prelude.{◌≡◌, ℕ, ◌*◌, ◌≤◌, List, length, IfOk, vec_items};
+ghost use Rattle.std.specs.Prelude.{◌≡◌, ◌*◌, ◌≤◌, length, IfOk, vec_items};
 ghost use Rattle.meetings.specs.Lists.{most, most_meetings};
 ghost use Rattle.meetings.specs.Refusals.{Answers, IfMemory};
-ghost use Rattle.changes.specs.Told.{OfRow, RowPromised};
-ghost use Rattle.day.specs.Reports.{told_of};
+ghost use Rattle.day.specs.Reports.{KeepsPromise, told_of};
 
 use changes::{Changed, change_bytes};
 use meetings::Refusal;
@@ -35,7 +34,7 @@ fn made_in(
     requires groups { most * most_meetings ≤ length group_rows.old }
     requires stations { most * most_meetings ≤ length station_rows.old }
     ensures told { Answers vec_items result (told_of day.now changes.now) }
-    ensures promised { IfOk result (λ ts. OfRow day.now changes.now (λ d cs. RowPromised d cs ts.items rounds.new)) }
+    ensures promised { IfOk result (λ ts. KeepsPromise day.now changes.now ts.items) }
 {
     change_bytes(heap, day, changes, rounds, group_rows, station_rows)
 }
@@ -43,7 +42,7 @@ fn made_in(
 // What is told of each change, and that there are rounds of the last day of which the promise of a row of changes holds.
 pub(crate) fn told_of(heap: Global, day: &[u8], changes: &[u8]) -> Result<Vec<Changed>, Refusal>
     ensures told { Answers vec_items result (told_of day.now changes.now) }
-    ensures promised { IfOk result (λ ts. OfRow day.now changes.now (λ d cs. (xs : List ℕ) × RowPromised d cs ts.items xs)) }
+    ensures promised { IfOk result (λ ts. KeepsPromise day.now changes.now ts.items) }
 {
     let mut rounds = lent(heap, MOST_MEETINGS)?;
     let mut group_rows = lent(heap, MOST_ENTRIES)?;
