@@ -5,9 +5,9 @@ mod making;
 
 use changes::Changed;
 use making::told_of;
-use programs::{ended, failed, read, refused};
+use programs::{ended, failed, read_or_none, refused, rest_of};
 use std::process::ExitCode;
-use std::{env, io};
+use std::{env, fs, io};
 
 const NAME: &str = "day";
 
@@ -28,11 +28,21 @@ fn print_changes(rt: &HostRuntime, told: &[Changed]) -> io::Result<()> {
     Ok(())
 }
 
+// The bytes of what a path names. Where they cannot be read, none: it is told that the file with `what` is to be named.
+fn bytes_of(rt: &HostRuntime, path: &str, what: &str) -> io::Result<Option<Vec<u8>>> {
+    let read = if path == "-" {
+        rest_of(rt.alloc(), &mut rt.reader())
+    } else {
+        fs::read(rt, path)
+    };
+    read_or_none(rt, NAME, path, what, read)
+}
+
 fn day(rt: &HostRuntime, day: &str, changes: &str) -> io::Result<ExitCode> {
-    let Some(day) = read(rt, NAME, day, "the day's meetings")? else {
+    let Some(day) = bytes_of(rt, day, "the day's meetings")? else {
         return Ok(ExitCode::FAILURE);
     };
-    let Some(changes) = read(rt, NAME, changes, "the row of changes")? else {
+    let Some(changes) = bytes_of(rt, changes, "the row of changes")? else {
         return Ok(ExitCode::FAILURE);
     };
     match told_of(rt.alloc(), &day, &changes) {

@@ -6,10 +6,10 @@ mod report;
 
 use balance::Planned;
 use making::report_of;
-use programs::{ended, failed, read, refused};
+use programs::{ended, failed, read_or_none, refused, rest_of};
 use report::Report;
 use std::process::ExitCode;
-use std::{env, io};
+use std::{env, fs, io};
 
 const NAME: &str = "plan";
 
@@ -35,7 +35,12 @@ fn print_report(rt: &HostRuntime, report: &Report) -> io::Result<()> {
 }
 
 fn plan(rt: &HostRuntime, path: &str) -> io::Result<ExitCode> {
-    let Some(bytes) = read(rt, NAME, path, "the day's meetings")? else {
+    let read = if path == "-" {
+        rest_of(rt.alloc(), &mut rt.reader())
+    } else {
+        fs::read(rt, path)
+    };
+    let Some(bytes) = read_or_none(rt, NAME, path, "the day's meetings", read)? else {
         return Ok(ExitCode::FAILURE);
     };
     match report_of(rt.alloc(), &bytes) {

@@ -1,26 +1,33 @@
-// Reading the file that a path names.
-use std::io::Read;
-use std::rt::Files;
-use std::{fs, io};
+// Reading what a program is given.
+ghost use Rattle.std.specs.Prelude.{◌≡◌, IfOk, IfSome, MatchResult, OnOk};
+ghost use Rattle.std.specs.Io.KnownBytes.{IsAtEnd};
 
-fn bytes_of<R: Files + Input + AllocGlobal>(rt: &R, path: &str) -> io::Result<Vec<u8>> {
-    if path != "-" {
-        return fs::read(rt, path);
-    }
-    let mut bytes = Vec::new(rt.alloc());
-    rt.reader().read_to_end(&mut bytes)?;
+use std::alloc::Global;
+use std::io;
+use std::io::Read;
+
+// All bytes that a source still gives.
+pub fn rest_of<S: Read>(heap: Global, source: &mut S) -> io::Result<Vec<u8>>
+    ensures bytes { IfOk result (λ bytes. IfSome (S.remaining source.old) (λ xs. bytes.items ≡ xs)) }
+    ensures end { OnOk result (IsAtEnd (S.remaining source.new)) }
+{
+    let mut bytes = Vec::new(heap);
+    source.read_to_end(&mut bytes)?;
     Ok(bytes)
 }
 
-// The bytes of a file, or of standard input for `-`. Where they cannot be read, none: a sentence on standard error says why, and that
-// the file with `what` is to be named.
-pub fn read<R: Files + Input + Eprint + AllocGlobal>(
-    rt: &R,
+// What was read of a path. Where it could not be read, none: a sentence on standard error says why, and that the file with `what` is
+// to be named.
+pub fn read_or_none(
+    rt: &impl Eprint,
     program: &str,
     path: &str,
     what: &str,
-) -> io::Result<Option<Vec<u8>>> {
-    match bytes_of(rt, path) {
+    read: io::Result<Vec<u8>>,
+) -> io::Result<Option<Vec<u8>>>
+    ensures { MatchResult read (λ bytes. result ≡ Ok (Some bytes)) (λ _. IfOk result (λ o. o ≡ None)) }
+{
+    match read {
         Ok(bytes) => Ok(Some(bytes)),
         Err(e) => {
             eprintln!(rt; "{program}: cannot read {path}: {e}. Name the file with {what}.")?;

@@ -1,5 +1,6 @@
 // Rows of changes as bytes: what they say, and each refusal at its place.
-use crate::checks::{add, drop_one, spread};
+use crate::checks::spread;
+use crate::kinds::{add, drop_one};
 use changes::Change::{GetRoom, GiveRoomUp};
 use changes::{Change, read_changes, write_changes};
 use meetings::Refusal;

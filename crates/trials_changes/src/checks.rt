@@ -2,7 +2,7 @@
 use crate::day::{Day, NONE};
 use crate::lent::{Lengths, Slices};
 use changes::{Change, Changed};
-use meetings::{Group, Meeting, MeetingId, MeetingList, Refusal, Station};
+use meetings::{MeetingList, Refusal};
 use std::alloc::{AllocError, Global};
 use std::process::Abort;
 use std::test::Fail;
@@ -19,17 +19,6 @@ pub(crate) fn spread(heap: Global, many: u16, rooms: u8) -> Result<MeetingList, 
         })
         .collect::<Vec<_>>(heap)?;
     list_of(heap, 120, 120, rooms, &meetings)
-}
-
-pub(crate) fn add(group: u16, station: u16) -> Change {
-    Change::Add(Meeting {
-        group: Group(group),
-        station: Station(station),
-    })
-}
-
-pub(crate) fn drop_one(number: u16) -> Change {
-    Change::Drop(MeetingId(number))
 }
 
 // No round has more meetings than there are rooms, and no two rounds differ by more than one.

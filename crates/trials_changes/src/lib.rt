@@ -1,5 +1,5 @@
 // Tests of changing a day: worked changes, refusals, bytes, the limits, random rows beside the rule written once more, and a long
-// row on a full day.
+// row on a full day. What they call adding and dropping is public, and proved.
 #![tactic(auto)]
 
 #[cfg(test)]
@@ -10,6 +10,7 @@ mod checks;
 mod day;
 #[cfg(test)]
 mod from_bytes;
+mod kinds;
 #[cfg(test)]
 mod lent;
 #[cfg(test)]
@@ -24,3 +25,5 @@ mod refused;
 mod rule;
 #[cfg(test)]
 mod worked;
+
+pub use kinds::{add, drop_one};

@@ -1,6 +1,7 @@
 // The limits: rooms from 1 to 120, and 4,000 numbers, those of dropped meetings among them.
-use crate::checks::{add, drop_one, spread};
+use crate::checks::spread;
 use crate::day::NONE;
+use crate::kinds::{add, drop_one};
 use crate::lent::{Lengths, Slices};
 use changes::Change::{GetRoom, GiveRoomUp};
 use changes::{Change, Changed};

@@ -1,7 +1,8 @@
 // A thousand changes on a full day. The looks and how many were moved are those of the rule worked by another program. Unproved
 // code may take more than a minute for them: give `rt try` more seconds.
-use crate::checks::{add, drop_one, spread, stands};
+use crate::checks::{spread, stands};
 use crate::day::Day;
+use crate::kinds::{add, drop_one};
 use crate::lent::{Lengths, Slices};
 use changes::Change;
 use changes::Change::{GetRoom, GiveRoomUp};

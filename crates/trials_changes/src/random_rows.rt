@@ -1,6 +1,7 @@
 // Random rows of changes on small days, beside the rule written once more.
-use crate::checks::{add, check_row, drop_one};
+use crate::checks::check_row;
 use crate::day::{Day, moved};
+use crate::kinds::{add, drop_one};
 use crate::lent::Lengths;
 use changes::Change;
 use changes::Change::{GetRoom, GiveRoomUp};

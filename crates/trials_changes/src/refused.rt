@@ -1,5 +1,6 @@
 // What is refused, at its place, and in which order; and slices that are just long enough.
-use crate::checks::{add, check_row, drop_one, ruled};
+use crate::checks::{check_row, ruled};
+use crate::kinds::{add, drop_one};
 use crate::lent::{Lengths, Slices};
 use changes::Change;
 use changes::Change::{GetRoom, GiveRoomUp};

@@ -1,6 +1,7 @@
 // Worked changes: the rounds, the looks and how many were moved follow from the rule by hand.
-use crate::checks::{add, check_row, drop_one, ruled};
+use crate::checks::{check_row, ruled};
 use crate::day::NONE;
+use crate::kinds::{add, drop_one};
 use crate::lent::Lengths;
 use changes::Change::{GetRoom, GiveRoomUp};
 use changes::{Change, Changed};
