@@ -29,31 +29,32 @@ one_most : (b : Bool) → one_if b ≤ 1
 one_most true = omega arith
 one_most false = omega arith
 
-module _ (d : Day) (part : Partial (rounds_of d) d.list.meetings d.at) where
-  pub marked_long : length (numbered d).there ≡ length d.list.meetings
-  marked_long = length-map d.at has_round ∙ part.each
+-- there is a mark for each meeting that has a round
+pub marked_long : (d : Day) → length d.at ≡ length d.list.meetings → length (numbered d).there ≡ length d.list.meetings
+marked_long d each = length-map d.at has_round ∙ each
 
-  pub marked_is : (i : ℕ) → get_or (numbered d).there i false ≡ has_round (round_of d.at i)
-  marked_is i = get_or-map has_round d.at i none
+pub marked_is : (d : Day) (i : ℕ) → get_or (numbered d).there i false ≡ has_round (round_of d.at i)
+marked_is d i = get_or-map has_round d.at i none
 
+module _ (d : Day) (r : ℕ) (part : Partial r d.list.meetings d.at) where
   -- the i-th of those that have a round
   record There (i : ℕ) : Type 0 where
     pub here : place (numbered d).there i < length d.list.meetings
     pub meeting : get_or (left (numbered d)).meetings i nobody ≡ get_or d.list.meetings (place (numbered d).there i) nobody
     pub round : round_of (those (numbered d).there d.at) i ≡ round_of d.at (place (numbered d).there i)
-    pub below : round_of d.at (place (numbered d).there i) < rounds_of d
+    pub below : round_of d.at (place (numbered d).there i) < r
 
   same_many : length (those (numbered d).there d.at) ≡ length (left (numbered d)).meetings
   same_many =
-      those_many (numbered d).there d.at (marked_long ∙ sym part.each)
+      those_many (numbered d).there d.at (length-map d.at has_round)
       ∙ ap (count (λ i. get_or (numbered d).there i false)) part.each
-      ∙ sym (those_many (numbered d).there d.list.meetings marked_long)
+      ∙ sym (those_many (numbered d).there d.list.meetings (marked_long d part.each))
 
   there_at : (i : ℕ) → i < length (left (numbered d)).meetings → There i
   there_at i h =
       let one = those_at (numbered d).there d.list.meetings nobody i h in
       let other = those_at (numbered d).there d.at none i (omega (arith, same_many)) in
-      let has = sym (marked_is (place (numbered d).there i)) ∙ one.marked in
+      let has = sym (marked_is d (place (numbered d).there i)) ∙ one.marked in
       record {
         here = one.here;
         meeting = one.is;
@@ -62,7 +63,7 @@ module _ (d : Day) (part : Partial (rounds_of d) d.list.meetings d.at) where
       }
 
   -- their rounds are a plan
-  left_plan : Plan (rounds_of d) (left (numbered d)).meetings (those (numbered d).there d.at)
+  pub left_plan : Plan r (left (numbered d)).meetings (those (numbered d).there d.at)
   left_plan = record {
     each = same_many;
     round = λ i h. let at = there_at i h in omega (arith, at.round, at.below);
@@ -75,31 +76,28 @@ module _ (d : Day) (part : Partial (rounds_of d) d.list.meetings d.at) where
   }
 
   -- all rounds together have no more meetings than there are
-  sizes_left : rounds_of d ≤ none → total (size d.at) (rounds_of d) ≤ length (left (numbered d)).meetings
+  sizes_left : r ≤ none → total (size d.at) r ≤ length (left (numbered d)).meetings
   sizes_left le =
-      let each = total_ext (size d.at) (λ c. count (λ i. eqb (round_of d.at i) c) (length d.list.meetings)) (rounds_of d) (λ c h. count_round (rounds_of d) d.list.meetings d.at c part) in
-      let by = by_rounds (λ i. true) (round_of d.at) (length d.list.meetings) (rounds_of d) in
-      let most = total_le (λ i. one_if (ltb (round_of d.at i) (rounds_of d))) (λ i. one_if (get_or (numbered d).there i false)) (length d.list.meetings) (λ i h. has i (cases_lt (round_of d.at i) (rounds_of d))) in
-      omega (arith, those_many (numbered d).there d.list.meetings marked_long)
+      let each = total_ext (size d.at) (λ c. count (λ i. eqb (round_of d.at i) c) (length d.list.meetings)) r (λ c h. count_round r d.list.meetings d.at c part) in
+      let by = by_rounds (λ i. true) (round_of d.at) (length d.list.meetings) r in
+      let most = total_le (λ i. one_if (ltb (round_of d.at i) r)) (λ i. one_if (get_or (numbered d).there i false)) (length d.list.meetings) (λ i h. has i (cases_lt (round_of d.at i) r)) in
+      omega (arith, those_many (numbered d).there d.list.meetings (marked_long d part.each))
     where
-      has : (i : ℕ) → (round_of d.at i < rounds_of d) ⊎ (rounds_of d ≤ round_of d.at i) → one_if (ltb (round_of d.at i) (rounds_of d)) ≤ one_if (get_or (numbered d).there i false)
-      has i (inl below) = let e = marked_is i ∙ has_round_below _ _ le below in rw e (one_most (ltb (round_of d.at i) (rounds_of d)))
+      has : (i : ℕ) → (round_of d.at i < r) ⊎ (r ≤ round_of d.at i) → one_if (ltb (round_of d.at i) r) ≤ one_if (get_or (numbered d).there i false)
+      has i (inl below) = let e = marked_is d i ∙ has_round_below _ _ le below in rw e (one_most (ltb (round_of d.at i) r))
       has i (inr past) = rw (le-ltb _ _ past) (omega arith)
 
-  -- A DAY THAT STANDS
-  pub stands_if : Proper d.list → Evened (rounds_of d) d.at → Stands d
-  stands_if proper even =
-      let proper_left = left_proper (numbered d) marked_long proper in
-      let le = rounds_few (numbered d) marked_long proper in
-      let enough = (fewest_suffices (left (numbered d)) proper.rooms_within.0).1 in
-      record {
-        proper = proper;
-        partial = part;
-        plan = left_plan;
-        within = even_within (rounds_of d) d.list.rooms (size d.at) even (omega (arith, sizes_left le, enough));
-        even = even;
-        no_fewer = no_fewer_said (left (numbered d)) (rounds_of d) proper.rooms_within.0 refl;
-      }
-
+-- A DAY THAT STANDS
 pub stands_from : (d : Day) → Proper d.list → Partial (rounds_of d) d.list.meetings d.at → Evened (rounds_of d) d.at → Stands d
-stands_from d proper part even = stands_if d part proper even
+stands_from d proper part even =
+    let proper_left = left_proper (numbered d) (marked_long d part.each) proper in
+    let le = rounds_few (numbered d) (marked_long d part.each) proper in
+    let enough = (fewest_suffices (left (numbered d)) proper.rooms_within.0).1 in
+    record {
+      proper = proper;
+      partial = part;
+      plan = left_plan d (rounds_of d) part;
+      within = even_within (rounds_of d) d.list.rooms (size d.at) even (omega (arith, sizes_left d (rounds_of d) part le, enough));
+      even = even;
+      no_fewer = no_fewer_said (left (numbered d)) (rounds_of d) proper.rooms_within.0 refl;
+    }

@@ -25,6 +25,7 @@ pub use change::Change;
 pub use changed::Changed;
 pub use day::{change_bytes, change_day};
 pub use reading::read_changes;
+pub use register::Register;
 pub use theorems::{
     accepted_rows_can_be_made, bytes_refused_for_the_first_that_say_none,
     change_leaves_a_day_that_stands, every_row_leaves_days_that_stand, first_day_stands,

@@ -17,7 +17,7 @@ const MOST: u16 = 120;
 const MOST_MEETINGS: usize = 4000;
 
 #[derive(Drop)]
-pub(crate) struct Register {
+pub struct Register {
     pub(crate) groups: u16,
     pub(crate) stations: u16,
     rooms: u16,
@@ -29,7 +29,7 @@ pub(crate) struct Register {
 
 impl Register {
     // The register of a list, of which no meeting was dropped. Only memory can be wanting.
-    pub(crate) fn of(heap: Global, list: &MeetingList) -> Result<Register, Refusal>
+    pub fn of(heap: Global, list: &MeetingList) -> Result<Register, Refusal>
         ensures is { IfMemory result (λ n. registered n ≡ whole (contents list.now)) }
         ensures kept { IfMemory result Kept }
     {
@@ -74,7 +74,7 @@ impl Register {
     }
 
     // The number of rounds of the meetings that there are.
-    pub(crate) fn rounds(&self) -> u16
+    pub fn rounds(&self) -> u16
         requires { Kept self.now }
         ensures { result ≡ rounds_for (registered self.now) }
     {
@@ -97,7 +97,7 @@ impl Register {
 
     // A meeting is dropped.
     #[tactic(auto, using(crate::proofs::Keeping::gone_group_counted, crate::proofs::Keeping::gone_station_counted, crate::proofs::Keeping::group_some, crate::proofs::Keeping::station_some, crate::proofs::Keeping::many_some))]
-    fn drop_meeting(&mut self, id: MeetingId)
+    pub fn drop_meeting(&mut self, id: MeetingId)
         requires kept { Kept self.old }
         requires can { can (registered self.old) (Drop id) ≡ true }
         ensures { Becomes self.old self.new (Drop id) }

@@ -1,0 +1,11 @@
+pub mod Accepted
+pub mod BytesRead
+pub mod Dropping
+pub mod FirstFault
+pub mod Made
+pub mod Marking
+pub mod SeenBefore
+pub mod Tests
+pub mod Turns
+pub mod Verdicts
+pub mod WhereFaults
