@@ -8,8 +8,8 @@ ghost use Rattle.chains.specs.Partial.{party_of, round_of};
 ghost use Rattle.plans.specs.Checking.{both_alone, each, seen};
 ghost use Rattle.plans.specs.Seen.{Marks};
 
+use crate::given::is_dropped;
 use crate::seen::see;
-use chains::NONE;
 use meetings::{Meeting, MeetingId, MeetingList, Refusal, Side};
 use std::alloc::Global;
 
@@ -52,7 +52,7 @@ fn meeting_alone(
     ensures groups { IfOk result (λ _. Marks meetings.now of_meetings.now Groups rounds (at + 1) groups.new) }
     ensures stations { IfOk result (λ _. Marks meetings.now of_meetings.now Stations rounds (at + 1) stations.new) }
 {
-    if of_meetings[at] == NONE {
+    if is_dropped(of_meetings[at]) {
         return Ok(());
     }
     // `as`, since it is proved to fit

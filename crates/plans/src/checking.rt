@@ -10,10 +10,10 @@ ghost use Rattle.plans.specs.Faults.{PlanOrFault};
 ghost use Rattle.plans.specs.Statements.{OfPlan};
 
 use crate::alone::nobody_twice;
+use crate::given::is_dropped;
 use crate::kept::is_fewest;
 use crate::reading::read_plan;
 use crate::rooms::none_crowded;
-use chains::NONE;
 use meetings::{MeetingId, MeetingList, Refusal, read};
 use std::alloc::Global;
 
@@ -39,7 +39,7 @@ fn in_rounds(of_meetings: &[u16], rounds: u16) -> Result<(), Refusal>
     ensures below { IfOk result (λ _. (i : ℕ) → i < length of_meetings.now → (round_of of_meetings.now i ≢ none) → round_of of_meetings.now i < rounds) }
 {
     for (i, round) in of_meetings.iter().enumerate() {
-        if *round != NONE && *round >= rounds {
+        if !is_dropped(*round) && *round >= rounds {
             // `as`, since it is proved to fit
             return Err(Refusal::NoSuchRound(MeetingId(i as u16)));
         }

@@ -6,7 +6,7 @@ ghost use Rattle.changes.specs.Numbered.{rounds_for};
 ghost use Rattle.plans.specs.Checking.{is_fewest};
 ghost use Rattle.plans.specs.Given.{marked};
 
-use chains::NONE;
+use crate::given::is_dropped;
 use changes::Register;
 use meetings::{MeetingId, MeetingList, Refusal};
 use std::alloc::Global;
@@ -18,7 +18,7 @@ fn rounds_of_kept(heap: Global, list: &MeetingList, of_meetings: &[u16]) -> Resu
 {
     let mut register = Register::of(heap, list)?;
     for (i, round) in of_meetings.iter().enumerate() {
-        if *round == NONE {
+        if is_dropped(*round) {
             // `as`, since it is proved to fit
             register.drop_meeting(MeetingId(i as u16));
         }
