@@ -72,7 +72,7 @@ module _ (d : Contents) (r : ℕ) (xs : List ℕ) (proper : Proper d) (le : r �
         (λ other. ⊎_elim (λ before. absurd (clear _ _ _ (clash s i j before hj (λ out. omega arith) same of))) (λ after. absurd (clear _ _ _ (clash s j i after hi (λ out. omega arith) (sym same) (sym of)))) other)
         (cases_order i j)
 
-    partial : Partial r d.meetings xs
+    pub partial : Partial r d.meetings xs
     partial = record { each = long; round = one_of_rounds; apart = once }
 
     within : (c : ℕ) → c < r → in_round c xs ≤ d.rooms
@@ -140,6 +140,10 @@ module _ (d : Contents) (r : ℕ) (xs : List ℕ) (proper : Proper d) (le : r �
         omega (arith, sym other.place_is ∙ ap (place (marked d xs).there) same ∙ one.place_is)
     no_fault_in_plan n t p (crowded c h many) = omega (arith, plan.within c h, kept_in_round d xs c (omega arith))
     no_fault_in_plan n t p (not_fewest other) = other is_least
+
+-- all meetings with their rounds are a partial plan
+pub partial_of : (d : Contents) (r : ℕ) (xs : List ℕ) → Proper d → r ≤ none → FewestPlan d r xs → Partial r d.meetings xs
+partial_of d r xs proper le plan = partial d r xs proper le (no_fault_in_plan d r xs proper le plan)
 
 -- A PLAN IS ACCEPTED just where it is one of the fewest rounds
 pub accepts_fewest : AcceptsFewest

@@ -12,7 +12,7 @@ pub struct GivenPlan {
 }
 
 // Whether a meeting with this round was dropped.
-pub(crate) fn is_dropped(round: u16) -> bool
+pub fn is_dropped(round: u16) -> bool
     ensures { result ≡ (round == none) }
 {
     round == NONE

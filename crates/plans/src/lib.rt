@@ -12,7 +12,7 @@ mod theorems;
 mod writing;
 
 pub use checking::{check, check_bytes};
-pub use given::GivenPlan;
+pub use given::{GivenPlan, is_dropped};
 pub use reading::read_plan;
 pub use theorems::{
     accepted_where_of_the_fewest_rounds, changed_plans_are_accepted, made_plans_are_accepted,
