@@ -26,7 +26,13 @@ expect() {
 bytes() { printf "$1" >"$work/day"; }
 row() { printf "$1" >"$work/row"; }
 
-for program in plan day; do
+# same FILE FILE: the two have the same bytes.
+same() { expect 0 '' '' cmp "$1" "$2"; }
+# old FILE, still FILE: it gets some text, and holds it still.
+old() { printf 'as it was' >"$1"; }
+still() { expect 0 'as it was' '' cat "$1"; }
+
+for program in plan day checker; do
     (cd crates/$program && rt run -- --help) >"$work/built" 2>&1 || {
         cat "$work/built"
         exit 1
@@ -36,9 +42,11 @@ plan=crates/plan/out/plan
 school=$(cat crates/plan/stdout)
 expect 0 "$school" '' $plan examples/school.day
 expect 0 "$school" '' $plan - <examples/school.day
-expect 0 'usage: plan DAY*' '' $plan --help
-expect 1 '' 'plan: one file is needed*plan --help*' $plan
-expect 1 '' 'plan: one file is needed*plan --help*' $plan examples/school.day examples/school.day
+expect 0 "$school" '' $plan examples/school.day "$work/plan"
+same "$work/plan" examples/school.plan
+expect 0 'usage: plan DAY *PLAN*' '' $plan --help
+expect 1 '' 'plan: one or two files are needed*plan --help*' $plan
+expect 1 '' 'plan: one or two files are needed*plan --help*' $plan examples/school.day "$work/plan" "$work/plan"
 expect 1 '' 'plan: cannot read no-such.day: No such file*' $plan no-such.day
 expect 1 '' 'plan: cannot read examples: *' $plan examples
 expect 1 '' 'plan: No space left on device*' bash -c "$plan examples/school.day >/dev/full"
@@ -90,10 +98,10 @@ school=$(cat crates/day/stdout)
 expect 0 "$school" '' $day examples/school.day examples/school.changes
 expect 0 "$school" '' $day - examples/school.changes <examples/school.day
 expect 0 "$school" '' $day examples/school.day - <examples/school.changes
-expect 0 'usage: day DAY CHANGES*' '' $day --help
-expect 1 '' 'day: two files are needed*day --help*' $day
-expect 1 '' 'day: two files are needed*day --help*' $day examples/school.day
-expect 1 '' 'day: two files are needed*day --help*' $day examples/school.day examples/school.changes examples/school.changes
+expect 0 'usage: day DAY CHANGES *PLAN*' '' $day --help
+expect 1 '' 'day: two or three files are needed*day --help*' $day
+expect 1 '' 'day: two or three files are needed*day --help*' $day examples/school.day
+expect 1 '' 'day: two or three files are needed*day --help*' $day examples/school.day examples/school.changes "$work/plan" "$work/plan"
 expect 1 '' 'day: only one of the two files can be standard input*day --help*' $day - - <examples/school.day
 expect 1 '' "day: cannot read no-such.day: No such file*. Name the file with the day's meetings." $day no-such.day examples/school.changes
 expect 1 '' 'day: cannot read no-such.changes: No such file*. Name the file with the row of changes.' $day examples/school.day no-such.changes
@@ -149,5 +157,164 @@ bytes '\x01\x01\x01\x00'
 changes '\x04' 1 'refused 1 at 4'
 bytes '\x03\x03\x01\x03\x00\x00\x00\x01\x01\x03\x02'
 changes '\x04' 1 'refused 4 at 9'
+
+# The checker: refusals have the number and the place that FORMATS.md gives them.
+checker=crates/checker/out/checker
+# judged PLAN STATUS STDOUT: what is said of this plan for the day that was written last.
+judged() {
+    printf "$1" >"$work/plan"
+    expect "$2" "$3" '' $checker "$work/day" "$work/plan"
+}
+expect 0 accepted '' $checker examples/school.day examples/school.plan
+expect 0 accepted '' $checker - examples/school.plan <examples/school.day
+expect 0 accepted '' $checker examples/school.day - <examples/school.plan
+expect 0 'usage: checker DAY PLAN*' '' $checker --help
+expect 1 '' 'checker: two files are needed*checker --help*' $checker
+expect 1 '' 'checker: two files are needed*checker --help*' $checker examples/school.day
+expect 1 '' 'checker: two files are needed*checker --help*' $checker examples/school.day examples/school.plan examples/school.plan
+expect 1 '' 'checker: only one of the two files can be standard input*checker --help*' $checker - - <examples/school.day
+expect 1 '' "checker: cannot read no-such.day: No such file*. Name the file with the day's meetings." $checker no-such.day examples/school.plan
+expect 1 '' 'checker: cannot read no-such.plan: No such file*. Name the file with the plan.' $checker examples/school.day no-such.plan
+expect 1 '' 'checker: No space left on device*' bash -c "$checker examples/school.day examples/school.plan >/dev/full"
+
+# Two groups, two stations, two rooms: meetings of group 0 with stations 0 and 1, and then of group 1 with both.
+bytes '\x02\x02\x02\x04\x00\x00\x00\x00\x01\x01\x00\x01\x01'
+judged '\x02\x00\x00\x00\x01\x00\x01\x00\x00\x00' 0 accepted
+# Meetings 0 and 3 are dropped, and one round is enough for the others; all are, and none is needed.
+judged '\x01\x00\xff\xff\x00\x00\x00\x00\xff\xff' 0 accepted
+judged '\x00\x00\xff\xff\xff\xff\xff\xff\xff\xff' 0 accepted
+# No bytes, one too few, one too many.
+judged '' 1 'refused 1 at 0'
+judged '\x02\x00\x00\x00\x01\x00\x01\x00\x00' 1 'refused 1 at 9'
+judged '\x02\x00\x00\x00\x01\x00\x01\x00\x00\x00\x00' 1 'refused 1 at 10'
+# Meeting 2 has round 2 of two, then round 256; meeting 0 has round 0 of none.
+judged '\x02\x00\x00\x00\x01\x00\x02\x00\x00\x00' 1 'refused 7 at 2'
+judged '\x02\x00\x00\x00\x01\x00\x00\x01\x00\x00' 1 'refused 7 at 2'
+judged '\x00\x00\x00\x00\x00\x00\x00\x00\x00\x00' 1 'refused 7 at 0'
+# Meeting 1 is in the round of meeting 0, as group 0 is; meeting 2 is in it, as station 0 is.
+judged '\x02\x00\x00\x00\x00\x00\x01\x00\x01\x00' 1 'refused 8 at 1'
+judged '\x02\x00\x00\x00\x01\x00\x00\x00\x01\x00' 1 'refused 8 at 8194'
+# A round more than is needed, of which one is empty; and where two meetings are dropped; and the most that can be said.
+judged '\x03\x00\x00\x00\x01\x00\x01\x00\x00\x00' 1 'refused 10 at 3'
+judged '\x02\x00\xff\xff\x00\x00\x01\x00\xff\xff' 1 'refused 10 at 2'
+judged '\xff\xff\x00\x00\x01\x00\x01\x00\x00\x00' 1 'refused 10 at 65535'
+# With one room the rounds 0 and 1 have a meeting too many; with rounds for three, round 1 alone.
+bytes '\x02\x02\x01\x04\x00\x00\x00\x00\x01\x01\x00\x01\x01'
+judged '\x02\x00\x00\x00\x01\x00\x01\x00\x00\x00' 1 'refused 9 at 0'
+judged '\x03\x00\x00\x00\x01\x00\x01\x00\x02\x00' 1 'refused 9 at 1'
+judged '\x04\x00\x00\x00\x01\x00\x02\x00\x03\x00' 0 accepted
+# A list is refused before its plan.
+bytes '\x02\x02\x01\x04\x00\x00\x00\x00\x01\x01\x00\x01\x02'
+judged '' 1 'refused 4 at 12'
+
+# What plan and day write is accepted: for the list of the day where nothing is changed, or where no meeting is added and there are
+# as many rooms in the end.
+# written LIST ROW CHECKED: of this list and row a plan is written, and accepted for the list CHECKED.
+written() {
+    row "$2"
+    bytes "$1"
+    expect 0 '*' '' $day "$work/day" "$work/row" "$work/plan"
+    bytes "$3"
+    expect 0 accepted '' $checker "$work/day" "$work/plan"
+}
+list='\x03\x03\x03\x04\x00\x00\x00\x01\x00\x02\x02\x01\x02'
+bytes "$list"
+expect 0 '*' '' $plan "$work/day" "$work/plan"
+expect 0 accepted '' $checker "$work/day" "$work/plan"
+written "$list" '' "$list"
+written "$list" '\x01\x02\x00' "$list"
+written "$list" '\x02\x02\x01\x00\x00\x01\x03\x00\x03\x03' "$list"
+written "$list" '\x01\x00\x00\x01\x01\x00\x01\x02\x00\x01\x03\x00' "$list"
+# Two rooms in the end, and meeting 4 of group 2 with station 1.
+written "$list" '\x02\x01\x01\x00\x00\x02\x01' '\x03\x03\x02\x05\x00\x00\x00\x01\x00\x02\x02\x01\x02\x02\x01'
+# All meetings that there may be, in as many rounds, the last of which is added.
+most() { printf '\x78\x78\x01%b' "$1" && head -c "$2" /dev/zero; }
+most '\x9f\x0f' 7998 >"$work/day"
+row '\x00\x00\x00'
+expect 0 'rounds 4000 moved 0' '' $day "$work/day" "$work/row" "$work/plan"
+most '\xa0\x0f' 8000 >"$work/day"
+expect 0 accepted '' $checker "$work/day" "$work/plan"
+# Meetings 0 to 2 are dropped, and a room is given up and got.
+row '\x01\x00\x00\x02\x01\x01\x00\x03\x01\x02\x00'
+expect 0 'rounds *' '' $day examples/school.day "$work/row" "$work/plan"
+expect 0 accepted '' $checker examples/school.day "$work/plan"
+
+# Both programs write a plan in the same way. An existing file becomes the whole plan, or stays as it was.
+good='\x02\x02\x02\x04\x00\x00\x00\x00\x01\x01\x00\x01\x01'
+printf '\x02\x00\x00\x00\x01\x00\x01\x00\x00\x00' >"$work/want"
+# A room more changes nothing here, and it is told of.
+row '\x03'
+# What root may write to anyway it may not without this right.
+if [ "$(id -u)" = 0 ]; then bound='setpriv --bounding-set=-dac_override'; else bound=; fi
+mkdir "$work/locked" "$work/folder"
+old "$work/locked/plan"
+chmod a-w "$work/locked"
+long=$work/$(printf '%0255d' 0)
+old "$long"
+for write in "$plan $work/day" "$day $work/day $work/row"; do
+    name=$(basename "${write%% *}")
+    cannot="$name: cannot write"
+
+    bytes "$good"
+    expect 0 '*' '' $write "$work/$name.plan"
+    same "$work/$name.plan" "$work/want"
+    # One that exists is replaced, and no others may read it than before.
+    old "$work/$name.old"
+    chmod 600 "$work/$name.old"
+    expect 0 '*' '' $write "$work/$name.old"
+    same "$work/$name.old" "$work/want"
+    expect 0 600 '' stat -c %a "$work/$name.old"
+    # Of a link, what it names.
+    ln -s "$name.named" "$work/$name.link"
+    old "$work/$name.named"
+    expect 0 '*' '' $write "$work/$name.link"
+    same "$work/$name.named" "$work/want"
+    expect 0 "$name.named" '' readlink "$work/$name.link"
+    # A device and a pipe are written into.
+    expect 0 '*' '' $write /dev/null
+    expect 0 'character special file' '' stat -c %F /dev/null
+    mkfifo "$work/$name.pipe"
+    cat "$work/$name.pipe" >"$work/$name.read" &
+    expect 0 '*' '' $write "$work/$name.pipe"
+    wait
+    same "$work/$name.read" "$work/want"
+    expect 0 fifo '' stat -c %F "$work/$name.pipe"
+    # It is written before anything is printed.
+    expect 1 '' "$name: No space left on device*" bash -c "$write $work/$name.first >/dev/full"
+    same "$work/$name.first" "$work/want"
+
+    expect 1 '' "$name: the plan needs a file of its own*$name --help*" $write -
+    expect 1 '' "$cannot $work/no-such/plan: No such file*" $write "$work/no-such/plan"
+    expect 1 '' "$cannot $work/folder: Is a directory*" $write "$work/folder"
+    expect 1 '' "$cannot $work/folder/: Is a directory*" $write "$work/folder/"
+    expect 1 '' "$cannot $work/day/plan: Not a directory*" $write "$work/day/plan"
+    expect 1 '' "$cannot : No such file*" $write ''
+    expect 1 '' "$cannot /dev/full: No space left on device*" $write /dev/full
+    expect 1 '' "$cannot $work/locked/new: Permission denied*" $bound $write "$work/locked/new"
+    expect 1 '' "$cannot $work/locked/plan: Permission denied*" $bound $write "$work/locked/plan"
+    still "$work/locked/plan"
+    # There is no room for another name beside this one.
+    expect 1 '' "$cannot $long: File name too long*" $write "$long"
+    still "$long"
+    # The first half of the plan can be written, and the rest not.
+    most '\xa0\x0f' 8000 >"$work/day"
+    old "$work/$name.half"
+    expect 1 '' "$cannot $work/$name.half: File too large*" bash -c "trap '' XFSZ; ulimit -f 4; $write $work/$name.half"
+    still "$work/$name.half"
+    # A list that is refused has no plan.
+    bytes '\x01\x01\x01\x00'
+    old "$work/$name.kept"
+    expect 1 'refused 1 at 4' '' $write "$work/$name.kept"
+    still "$work/$name.kept"
+    expect 1 'refused 1 at 4' '' $write "$work/$name.none"
+    expect 1 '' '' test -e "$work/$name.none"
+done
+# Neither has a row that is refused.
+bytes "$good"
+row '\x03\x04'
+expect 1 'refused 6 at 1' '' $day "$work/day" "$work/row" "$work/day.kept"
+still "$work/day.kept"
+# No part of a plan is left over.
+expect 0 '' '' find "$work" -name '*.part'
 
 exit "$failed"

@@ -5,6 +5,7 @@ use Rattle.fewest.specs.Rounds.{fewest}
 use Rattle.balance.specs.declared.planned.Planned.{Planned}
 use Rattle.balance.specs.Lent.{plan_of}
 use Rattle.balance.specs.Sizes.{sizes_of}
+use Rattle.plans.specs.Given.{Given}
 use Rattle.plan.specs.declared.report.Report.{Report}
 
 -- the number of rounds, the looks, how many meetings each round has, and the round of each meeting
@@ -19,6 +20,10 @@ telling rounds looks xs = record { rounds = rounds; looks = looks; of_rounds = s
 
 abbrev pub told : Report → Told
 told r = record { rounds = r.planned.rounds; looks = r.planned.looks; of_rounds = vec_items r.of_rounds; of_meetings = vec_items r.of_meetings }
+
+-- the plan in it
+abbrev pub plan_told : Told → Given
+plan_told t = record { rounds = t.rounds; at = t.of_meetings }
 
 -- what is told of a list: the fewest rounds, and the rule's plan with so many
 abbrev pub told_of : Contents → Told

@@ -1,24 +1,26 @@
-// plan DAY: reads a day's list of meetings and prints a plan with the fewest rounds.
+// plan DAY [PLAN]: reads a day's list of meetings, prints a plan with the fewest rounds, and writes it to a file.
 #![tactic(auto)]
 
 mod making;
 mod report;
 
 use balance::Planned;
-use making::report_of;
-use programs::{ended, failed, read_or_none, refused, rest_of};
+use making::made_of;
+use programs::{bytes_of, ended, failed, refused, write_file, written_or_none};
 use report::Report;
 use std::process::ExitCode;
-use std::{env, fs, io};
+use std::{env, io};
 
 const NAME: &str = "plan";
 
-const USAGE: &str = "usage: plan DAY
+const USAGE: &str = "usage: plan DAY [PLAN]
 
 Prints a plan with the fewest rounds: their number and the looks that making it took, how many meetings each round has, and
 the round of each meeting. Nobody is at two meetings in a round, no round has more meetings than there are rooms, and no two
 rounds differ by more than one meeting.
 DAY is the file with the day's list of meetings; - reads it from standard input.
+PLAN is a file that the plan is written to before anything is printed. A file that is there is replaced by the whole plan, or
+stays as it is.
 A list that breaks a rule is told of in one line, 'refused N at P', with exit status 1.";
 
 // The number of rounds and of looks, how many meetings each round has, and the round of each meeting.
@@ -34,40 +36,49 @@ fn print_report(rt: &HostRuntime, report: &Report) -> io::Result<()> {
     Ok(())
 }
 
-fn plan(rt: &HostRuntime, path: &str) -> io::Result<ExitCode> {
-    let read = if path == "-" {
-        rest_of(rt.alloc(), &mut rt.reader())
-    } else {
-        fs::read(rt, path)
-    };
-    let Some(bytes) = read_or_none(rt, NAME, path, "the day's meetings", read)? else {
+fn plan(rt: &HostRuntime, day: &str, to: Option<&str>) -> io::Result<ExitCode> {
+    let Some(bytes) = bytes_of(rt, &mut rt.reader(), NAME, day, "the day's meetings")? else {
         return Ok(ExitCode::FAILURE);
     };
-    match report_of(rt.alloc(), &bytes) {
-        Ok(report) => {
-            print_report(rt, &report)?;
-            Ok(ExitCode::SUCCESS)
+    let made = match made_of(rt.alloc(), &bytes) {
+        Ok(made) => made,
+        Err(refusal) => return refused(rt, refusal),
+    };
+    if let Some(path) = to {
+        let written = write_file(rt, rt.process(), path, &made.plan);
+        if written_or_none(rt, NAME, path, written)?.is_none() {
+            return Ok(ExitCode::FAILURE);
         }
-        Err(refusal) => refused(rt, refusal),
     }
+    print_report(rt, &made.report)?;
+    Ok(ExitCode::SUCCESS)
 }
 
 fn run(rt: &HostRuntime) -> io::Result<ExitCode> {
     let mut args = env::args(rt)?.skip(1);
     let first = args.next();
+    let second = args.next();
     let more = args.next();
-    let (Some(path), None) = (first, more) else {
+    let (Some(day), None) = (first, more) else {
         return failed(
             rt,
             NAME,
-            "one file is needed, the day's meetings: plan DAY. See plan --help.",
+            "one or two files are needed, the day's meetings and one for the plan: plan DAY [PLAN]. See plan --help.",
         );
     };
-    if path.as_str() == "--help" {
+    if second.is_none() && day.as_str() == "--help" {
         println!(rt; "{USAGE}")?;
         return Ok(ExitCode::SUCCESS);
     }
-    plan(rt, path.as_str())
+    let to = second.as_ref().map(|path| path.as_str());
+    if to == Some("-") {
+        return failed(
+            rt,
+            NAME,
+            "the plan needs a file of its own, since the report goes to standard output. See plan --help.",
+        );
+    }
+    plan(rt, day.as_str(), to)
 }
 
 fn main(rt: HostRuntime) -> ExitCode {

@@ -1,16 +1,19 @@
-// Making the report of a day.
+// Making the report and the plan of a day.
 ghost use Rattle.std.specs.Prelude.{◌≡◌, ◌*◌, length, IfOk};
 ghost use Rattle.meetings.specs.Bytes.{read_list};
 ghost use Rattle.meetings.specs.Held.{contents};
 ghost use Rattle.meetings.specs.Refusals.{accepted, then, Answers, IfMemory};
 ghost use Rattle.fewest.specs.Rounds.{fewest};
 ghost use Rattle.balance.specs.Lent.{OfBytes, PlansDay};
-ghost use Rattle.plan.specs.Reports.{ToldBy, told, told_of};
+ghost use Rattle.plans.specs.Bytes.{bytes_of_plan};
+ghost use Rattle.plans.specs.Checking.{checked_bytes, fine};
+ghost use Rattle.plan.specs.Reports.{ToldBy, plan_told, told, told_of};
 
-use crate::report::{Report, nothing};
+use crate::report::{Made, Report, nothing};
 use balance::{Planned, count_rounds, plan};
 use fewest::fewest_rounds;
 use meetings::{MeetingList, Refusal};
+use plans::write_plan;
 use std::alloc::Global;
 
 // Plans in slices that are lent just as long as the number of rounds asks for, so that none of them is refused. A function of its
@@ -56,11 +59,33 @@ fn report_on(heap: Global, list: &MeetingList) -> Result<Report, Refusal>
     })
 }
 
-// The report of the list that the bytes say. What it tells is a plan within the rooms and even, and no plan has fewer rounds.
-pub(crate) fn report_of(heap: Global, bytes: &[u8]) -> Result<Report, Refusal>
-    ensures told { Answers told result (then (read_list bytes.now) (λ d. accepted (told_of d))) }
-    ensures planned { IfOk result (λ report. OfBytes bytes.now (λ d. PlansDay d report.of_meetings.items report.planned)) }
+// The report of a list, and the plan that it tells as bytes. Only memory can be wanting.
+fn made_on(heap: Global, list: &MeetingList) -> Result<Made, Refusal>
+    ensures told { IfMemory result (λ m. told m.report ≡ told_of (contents list.now)) }
+    ensures plan { IfOk result (λ m. m.plan.items ≡ bytes_of_plan (plan_told (told m.report))) }
+    ensures planned { IfOk result (λ m. PlansDay (contents list.now) m.report.of_meetings.items m.report.planned) }
+{
+    let report = report_on(heap, list)?;
+    let plan = write_plan(heap, report.planned.rounds, &report.of_meetings)?;
+    Ok(Made { report, plan })
+}
+
+// The same of the list that the bytes say. What is told is a plan within the rooms and even, and no plan has fewer rounds.
+fn made_by_rule(heap: Global, bytes: &[u8]) -> Result<Made, Refusal>
+    ensures told { Answers (λ m. told m.report) result (then (read_list bytes.now) (λ d. accepted (told_of d))) }
+    ensures plan { IfOk result (λ m. m.plan.items ≡ bytes_of_plan (plan_told (told m.report))) }
+    ensures planned { IfOk result (λ m. OfBytes bytes.now (λ d. PlansDay d m.report.of_meetings.items m.report.planned)) }
 {
     let list = meetings::read(heap, bytes)?;
-    report_on(heap, &list)
+    made_on(heap, &list)
+}
+
+// And the rule of checking accepts the plan, for these bytes of the list.
+pub(crate) fn made_of(heap: Global, bytes: &[u8]) -> Result<Made, Refusal>
+    ensures told { Answers (λ m. told m.report) result (then (read_list bytes.now) (λ d. accepted (told_of d))) }
+    ensures plan { IfOk result (λ m. m.plan.items ≡ bytes_of_plan (plan_told (told m.report))) }
+    ensures accepted { IfOk result (λ m. checked_bytes bytes.now m.plan.items ≡ fine) }
+    ensures planned { IfOk result (λ m. OfBytes bytes.now (λ d. PlansDay d m.report.of_meetings.items m.report.planned)) }
+{
+    made_by_rule(heap, bytes)
 }

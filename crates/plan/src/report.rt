@@ -16,6 +16,13 @@ pub(crate) struct Report {
     pub(crate) of_meetings: Vec<u16>,
 }
 
+// The report of a day, and the bytes of the plan that it tells.
+#[derive(Drop)]
+pub(crate) struct Made {
+    pub(crate) report: Report,
+    pub(crate) plan: Vec<u8>,
+}
+
 // So many entries without a round or a meeting: they are lent, so none is a number. A `vec!` in place is not enough: the
 // report's contract does not say what the slices held before planning, so a wrong filling would not be refused.
 pub(crate) fn nothing(heap: Global, many: usize) -> Result<Vec<u16>, Refusal>

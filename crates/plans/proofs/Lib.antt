@@ -3,6 +3,7 @@ pub mod BytesRead
 pub mod Dropping
 pub mod FirstFault
 pub mod Made
+pub mod MadeWritten
 pub mod Marking
 pub mod SeenBefore
 pub mod Tests

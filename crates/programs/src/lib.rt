@@ -1,8 +1,10 @@
-// What the programs share: reading what they are given, and how a program ends.
+// What the programs share: reading what they are given, writing a file, and how a program ends.
 #![tactic(auto)]
 
 mod ending;
 mod reading;
+mod writing;
 
 pub use ending::{ended, failed, refused};
-pub use reading::{read_or_none, rest_of};
+pub use reading::{bytes_of, read_or_none, rest_of};
+pub use writing::{write_file, written_or_none};

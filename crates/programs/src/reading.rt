@@ -1,10 +1,11 @@
 // Reading what a program is given.
-ghost use Rattle.std.specs.Prelude.{◌≡◌, IfOk, IfSome, MatchResult, OnOk};
+ghost use Rattle.std.specs.Prelude.{◌≡◌, ◌≢◌, codes, IfOk, IfSome, MatchResult, OnOk};
 ghost use Rattle.std.specs.Io.KnownBytes.{IsAtEnd};
 
 use std::alloc::Global;
-use std::io;
+use std::fs::Files;
 use std::io::Read;
+use std::{fs, io};
 
 // All bytes that a source still gives.
 pub fn rest_of<S: Read>(heap: Global, source: &mut S) -> io::Result<Vec<u8>>
@@ -34,4 +35,24 @@ pub fn read_or_none(
             Ok(None)
         }
     }
+}
+
+// The bytes of what a path names, - for what the input still gives; none where they cannot be read, and that is told. The input is
+// not touched for any other path.
+pub fn bytes_of<R: Files + AllocGlobal + Eprint, S: Read>(
+    rt: &R,
+    input: &mut S,
+    program: &str,
+    path: &str,
+    what: &str,
+) -> io::Result<Option<Vec<u8>>>
+    ensures input { path.now ≡ codes "-" → IfOk result (λ o. IfSome o (λ bytes. IfSome (S.remaining input.old) (λ xs. bytes.items ≡ xs))) }
+    ensures untouched { (path.now ≢ codes "-") → input.new ≡ input.old }
+{
+    let read = if path == "-" {
+        rest_of(rt.alloc(), input)
+    } else {
+        fs::read(rt, path)
+    };
+    read_or_none(rt, program, path, what, read)
 }
