@@ -1,0 +1,88 @@
+// The fewest rounds for the meetings that are not dropped, found in two ways.
+use crate::alone::{NONE, Placed};
+use crate::faults::first_fault;
+use meetings::Side;
+use std::alloc::{AllocError, Global};
+
+// So many digits of a number to a base, the lowest first: the numbers below the base's power have all rows of digits.
+pub(crate) fn digits(
+    heap: Global,
+    number: u16,
+    base: u16,
+    many: usize,
+) -> Result<Vec<u16>, AllocError> {
+    let base = base.max(1);
+    let mut rest = number;
+    let mut digits = Vec::new(heap);
+    for _ in 0..many {
+        digits.push(rest % base)?;
+        rest /= base;
+    }
+    Ok(digits)
+}
+
+// How many rows of so many digits there are.
+pub(crate) fn rows(base: u16, many: usize) -> u16 {
+    base.saturating_pow(u32::try_from(many).unwrap_or(u32::MAX))
+}
+
+// The meetings that are not dropped.
+fn kept(heap: Global, placed: &[Placed]) -> Result<Vec<Placed>, AllocError> {
+    placed
+        .iter()
+        .copied()
+        .filter(|one| one.round != NONE)
+        .collect(heap)
+}
+
+// One of all ways to give each meeting one of so many rounds is a plan.
+fn has_plan(
+    heap: Global,
+    placed: &mut [Placed],
+    rounds: u16,
+    rooms: u16,
+) -> Result<bool, AllocError> {
+    for number in 0..rows(rounds, placed.len()) {
+        let tried = digits(heap, number, rounds, placed.len())?;
+        for (one, round) in placed.iter_mut().zip(&tried) {
+            one.round = *round;
+        }
+        if first_fault(placed, rounds, rooms).is_none() {
+            return Ok(true);
+        }
+    }
+    Ok(false)
+}
+
+// The least number of rounds for which there is a plan, by trying all. For up to five meetings.
+pub(crate) fn tried(heap: Global, placed: &[Placed], rooms: u16) -> Result<u16, AllocError> {
+    let mut kept = kept(heap, placed)?;
+    for rounds in 0..6 {
+        if has_plan(heap, &mut kept, rounds, rooms)? {
+            return Ok(rounds);
+        }
+    }
+    Ok(NONE)
+}
+
+// How many meetings the busiest party on a side has.
+fn busiest(kept: &[Placed], side: Side) -> usize {
+    let held = |one: &Placed| {
+        kept.iter()
+            .filter(|other| other.meeting.party(side) == one.meeting.party(side))
+            .count()
+    };
+    kept.iter().map(held).max().unwrap_or(0)
+}
+
+// The lowest number that has a round for each meeting of the busiest, and a place for each meeting. It is searched, since the
+// library divides.
+pub(crate) fn counted(heap: Global, placed: &[Placed], rooms: u16) -> Result<u16, AllocError> {
+    let kept = kept(heap, placed)?;
+    let most = busiest(&kept, Side::Groups).max(busiest(&kept, Side::Stations));
+    let least = (0..NONE).find(|rounds| {
+        let rounds = usize::from(*rounds);
+        rounds >= most && rounds.saturating_mul(usize::from(rooms)) >= kept.len()
+    });
+    Ok(least.unwrap_or(NONE))
+}
