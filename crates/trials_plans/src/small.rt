@@ -61,12 +61,12 @@ fn check_plans(rt: &impl Abort, heap: Global, list: &MeetingList) -> Result<u32,
     Ok(accepted)
 }
 
-// Up to three meetings, and one to three rooms: some 43,000 plans.
+// Up to four meetings, and one to three rooms: some 800,000 plans.
 #[test]
 fn every_small_plan(rt: HostRuntime) -> Result<(), Fail> {
     let heap = rt.alloc();
     let mut accepted = 0u32;
-    for many in 0..4usize {
+    for many in 0..5usize {
         for number in 0..rows(4, many) {
             for rooms in 1..=3u8 {
                 let list = small_list(heap, number, many, rooms)?;
