@@ -198,7 +198,7 @@ judged '\x02\x00\x00\x00\x01\x00\x00\x00\x01\x00' 1 'refused 8 at 8194'
 judged '\x03\x00\x00\x00\x01\x00\x01\x00\x00\x00' 1 'refused 10 at 3'
 judged '\x02\x00\xff\xff\x00\x00\x01\x00\xff\xff' 1 'refused 10 at 2'
 judged '\xff\xff\x00\x00\x01\x00\x01\x00\x00\x00' 1 'refused 10 at 65535'
-# With one room the rounds 0 and 1 have a meeting too many; with rounds for three, round 1 alone.
+# With one room the rounds 0 and 1 have a meeting too many; of three rounds, round 1 alone.
 bytes '\x02\x02\x01\x04\x00\x00\x00\x00\x01\x01\x00\x01\x01'
 judged '\x02\x00\x00\x00\x01\x00\x01\x00\x00\x00' 1 'refused 9 at 0'
 judged '\x03\x00\x00\x00\x01\x00\x01\x00\x02\x00' 1 'refused 9 at 1'
@@ -274,7 +274,7 @@ for write in "$plan $work/day" "$day $work/day $work/row"; do
     expect 0 '*' '' $write /dev/null
     expect 0 'character special file' '' stat -c %F /dev/null
     mkfifo "$work/$name.pipe"
-    cat "$work/$name.pipe" >"$work/$name.read" &
+    timeout 20 cat "$work/$name.pipe" >"$work/$name.read" &
     expect 0 '*' '' $write "$work/$name.pipe"
     wait
     same "$work/$name.read" "$work/want"
@@ -293,6 +293,11 @@ for write in "$plan $work/day" "$day $work/day $work/row"; do
     expect 1 '' "$cannot $work/locked/new: Permission denied*" $bound $write "$work/locked/new"
     expect 1 '' "$cannot $work/locked/plan: Permission denied*" $bound $write "$work/locked/plan"
     still "$work/locked/plan"
+    # A file that may not be written is not replaced.
+    old "$work/$name.fixed"
+    chmod a-w "$work/$name.fixed"
+    expect 1 '' "$cannot $work/$name.fixed: Permission denied*" $bound $write "$work/$name.fixed"
+    still "$work/$name.fixed"
     # There is no room for another name beside this one.
     expect 1 '' "$cannot $long: File name too long*" $write "$long"
     still "$long"
