@@ -32,7 +32,7 @@ same() { expect 0 '' '' cmp "$1" "$2"; }
 old() { printf 'as it was' >"$1"; }
 still() { expect 0 'as it was' '' cat "$1"; }
 
-for program in plan day checker; do
+for program in plan day checker sheet; do
     (cd crates/$program && rt run -- --help) >"$work/built" 2>&1 || {
         cat "$work/built"
         exit 1
@@ -207,6 +207,41 @@ judged '\x04\x00\x00\x00\x01\x00\x02\x00\x03\x00' 0 accepted
 bytes '\x02\x02\x01\x04\x00\x00\x00\x00\x01\x01\x00\x01\x02'
 judged '' 1 'refused 4 at 12'
 
+# THE SHEETS
+sheet=crates/sheet/out/sheet
+school=$(cat crates/sheet/stdout)
+expect 0 "$school" '' $sheet examples/school.day examples/school.plan
+expect 0 "$school" '' $sheet - examples/school.plan <examples/school.day
+expect 0 "$school" '' $sheet examples/school.day - <examples/school.plan
+expect 0 'usage: sheet DAY PLAN*' '' $sheet --help
+expect 1 '' 'sheet: two files are needed*sheet --help*' $sheet examples/school.day
+expect 1 '' 'sheet: only one of the two files can be standard input*sheet --help*' $sheet - - <examples/school.day
+expect 1 '' 'sheet: cannot read no-such.plan: No such file*. Name the file with the plan.' $sheet examples/school.day no-such.plan
+expect 1 '' 'sheet: No space left on device*' bash -c "$sheet examples/school.day examples/school.plan >/dev/full"
+# Group 0 meets stations 0 and 1, and group 1 station 1; the second meeting is dropped.
+bytes '\x02\x02\x02\x03\x00\x00\x00\x00\x01\x01\x01'
+printf '\x01\x00\x00\x00\xff\xff\x00\x00' >"$work/plan"
+expect 0 'group 0
+round  station
+    0        0
+
+group 1
+round  station
+    0        1
+
+station 0
+round    group
+    0        0
+
+station 1
+round    group
+    0        1' '' $sheet "$work/day" "$work/plan"
+# A plan with a round too many, and a list that breaks a rule before it.
+printf '\x02\x00\x00\x00\xff\xff\x00\x00' >"$work/plan"
+expect 1 'refused 10 at 2' '' $sheet "$work/day" "$work/plan"
+bytes '\x02\x02\x00\x00\x00'
+expect 1 'refused 2 at 2' '' $sheet "$work/day" "$work/plan"
+
 # What plan and day write is accepted: for the list of the day where nothing is changed, or where no meeting is added and there are
 # as many rooms in the end.
 # written LIST ROW CHECKED: of this list and row a plan is written, and accepted for the list CHECKED.
@@ -284,6 +319,8 @@ for write in "$plan $work/day" "$day $work/day $work/row"; do
     same "$work/$name.first" "$work/want"
 
     expect 1 '' "$name: the plan needs a file of its own*$name --help*" $write -
+    # Nor is what was read replaced by the plan.
+    expect 1 '' "$name: the plan needs a file of its own*$name --help*" $write "$work/day"
     expect 1 '' "$cannot $work/no-such/plan: No such file*" $write "$work/no-such/plan"
     expect 1 '' "$cannot $work/folder: Is a directory*" $write "$work/folder"
     expect 1 '' "$cannot $work/folder/: Is a directory*" $write "$work/folder/"

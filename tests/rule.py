@@ -2,7 +2,7 @@
 """The plan of a day by the rule, worked on the list of rounds alone: rule.py DAY prints it, with the number of looks.
 
 rule.py [--looks] DAY CHANGES makes the changes after it, and prints what each comes to; with --looks also the looks of each, and
-the plan after the last. It shares nothing with the crates.
+the plan after the last. rule.py --sheets DAY prints the sheets of the plan instead. It shares nothing with the crates.
 """
 import sys
 
@@ -131,6 +131,15 @@ class Day:
         for i, round in enumerate(self.rounds):
             print(f"meeting {i} dropped" if round is None else f"meeting {i} round {round}")
 
+    def print_sheets(self):
+        for side, one, other in ((0, "group", "station"), (1, "station", "group")):
+            for party in range((self.groups, self.stations)[side]):
+                print(f"{one} {party}\nround  {other:>7}")
+                for c in range(self.many):
+                    i = meeting_of(self.meetings, self.rounds, side, party, c)
+                    print(f"{c:>5}  {'free' if i is None else self.meetings[i][1 - side]:>7}")
+                print()
+
 
 def changes_of(data, groups, stations):
     """The changes that the bytes say, one by one: the kind, and the two bytes of what it names."""
@@ -155,8 +164,11 @@ def read(path):
 
 def main():
     looks_too = "--looks" in sys.argv
-    day_path, *paths = [arg for arg in sys.argv[1:] if arg != "--looks"]
+    day_path, *paths = [arg for arg in sys.argv[1:] if not arg.startswith("--")]
     day = Day(read(day_path))
+    if "--sheets" in sys.argv:
+        day.print_sheets()
+        return
     if not paths:
         print(f"rounds {day.many} looks {day.looks}")
         day.print_plan()

@@ -4,9 +4,9 @@
 
 mod making;
 
-use changes::Changed;
 use making::made_of;
-use programs::{bytes_of, ended, failed, refused, write_file, written_or_none};
+use programs::{answered, bytes_of, ended, failed, refused, write_file, written_or_none};
+use sheets::changes_text;
 use std::process::ExitCode;
 use std::{env, io};
 
@@ -21,15 +21,6 @@ standard input.
 PLAN is a file that the last plan is written to before anything is printed, with 65,535 for a dropped meeting. A file that is
 there is replaced by the whole plan, or stays as it is.
 A list or a row that breaks a rule is told of in one line, 'refused N at P', with exit status 1.";
-
-// For each change the number of rounds after it, and how many meetings were moved.
-fn print_changes(rt: &HostRuntime, told: &[Changed]) -> io::Result<()> {
-    for changed in told {
-        let Changed { rounds, moved, .. } = *changed;
-        println!(rt; "rounds {rounds} moved {moved}")?;
-    }
-    Ok(())
-}
 
 fn day(rt: &HostRuntime, day: &str, changes: &str, to: Option<&str>) -> io::Result<ExitCode> {
     let Some(day) = bytes_of(rt, &mut rt.reader(), NAME, day, "the day's meetings")? else {
@@ -48,8 +39,7 @@ fn day(rt: &HostRuntime, day: &str, changes: &str, to: Option<&str>) -> io::Resu
             return Ok(ExitCode::FAILURE);
         }
     }
-    print_changes(rt, &made.told)?;
-    Ok(ExitCode::SUCCESS)
+    answered(rt, changes_text(rt.alloc(), &made.told))
 }
 
 fn run(rt: &HostRuntime) -> io::Result<ExitCode> {
@@ -77,11 +67,11 @@ fn run(rt: &HostRuntime) -> io::Result<ExitCode> {
         );
     }
     let to = third.as_ref().map(|path| path.as_str());
-    if to == Some("-") {
+    if to == Some("-") || to == Some(list.as_str()) || to == Some(changes.as_str()) {
         return failed(
             rt,
             NAME,
-            "the plan needs a file of its own, since the report goes to standard output. See day --help.",
+            "the plan needs a file of its own, not standard output and none that is read. See day --help.",
         );
     }
     day(rt, list.as_str(), changes.as_str(), to)

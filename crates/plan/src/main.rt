@@ -2,12 +2,9 @@
 #![tactic(auto)]
 
 mod making;
-mod report;
 
-use balance::Planned;
-use making::made_of;
-use programs::{bytes_of, ended, failed, refused, write_file, written_or_none};
-use report::Report;
+use making::told_of;
+use programs::{answered, bytes_of, ended, failed, refused, write_file, written_or_none};
 use std::process::ExitCode;
 use std::{env, io};
 
@@ -23,35 +20,21 @@ PLAN is a file that the plan is written to before anything is printed. A file th
 stays as it is.
 A list that breaks a rule is told of in one line, 'refused N at P', with exit status 1.";
 
-// The number of rounds and of looks, how many meetings each round has, and the round of each meeting.
-fn print_report(rt: &HostRuntime, report: &Report) -> io::Result<()> {
-    let Planned { rounds, looks } = report.planned;
-    println!(rt; "rounds {rounds} looks {looks}")?;
-    for (round, meetings) in report.of_rounds.iter().enumerate() {
-        println!(rt; "round {round} meetings {meetings}")?;
-    }
-    for (meeting, round) in report.of_meetings.iter().enumerate() {
-        println!(rt; "meeting {meeting} round {round}")?;
-    }
-    Ok(())
-}
-
 fn plan(rt: &HostRuntime, day: &str, to: Option<&str>) -> io::Result<ExitCode> {
     let Some(bytes) = bytes_of(rt, &mut rt.reader(), NAME, day, "the day's meetings")? else {
         return Ok(ExitCode::FAILURE);
     };
-    let made = match made_of(rt.alloc(), &bytes) {
-        Ok(made) => made,
+    let told = match told_of(rt.alloc(), &bytes) {
+        Ok(told) => told,
         Err(refusal) => return refused(rt, refusal),
     };
     if let Some(path) = to {
-        let written = write_file(rt, rt.process(), path, &made.plan);
+        let written = write_file(rt, rt.process(), path, &told.plan);
         if written_or_none(rt, NAME, path, written)?.is_none() {
             return Ok(ExitCode::FAILURE);
         }
     }
-    print_report(rt, &made.report)?;
-    Ok(ExitCode::SUCCESS)
+    answered(rt, Ok(told.text))
 }
 
 fn run(rt: &HostRuntime) -> io::Result<ExitCode> {
@@ -71,11 +54,11 @@ fn run(rt: &HostRuntime) -> io::Result<ExitCode> {
         return Ok(ExitCode::SUCCESS);
     }
     let to = second.as_ref().map(|path| path.as_str());
-    if to == Some("-") {
+    if to == Some("-") || to == Some(day.as_str()) {
         return failed(
             rt,
             NAME,
-            "the plan needs a file of its own, since the report goes to standard output. See plan --help.",
+            "the plan needs a file of its own, not standard output and none that is read. See plan --help.",
         );
     }
     plan(rt, day.as_str(), to)

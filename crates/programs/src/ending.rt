@@ -27,6 +27,22 @@ pub fn refused(rt: &impl Print, refusal: Refusal) -> io::Result<ExitCode>
     Ok(ExitCode::FAILURE)
 }
 
+// An answer is printed as it is, or its refusal.
+pub fn answered<D: Display + Drop>(
+    rt: &impl Print,
+    answer: Result<D, Refusal>,
+) -> io::Result<ExitCode>
+    ensures { IfOk result (λ e. MatchResult answer (λ _. exit_status e ≡ 0) (λ _. exit_status e ≡ 1)) }
+{
+    match answer {
+        Ok(text) => {
+            print!(rt; "{text}")?;
+            Ok(ExitCode::SUCCESS)
+        }
+        Err(refusal) => refused(rt, refusal),
+    }
+}
+
 // The status of a program that came to this end. What it could not write is told of on standard error, as far as that can be
 // written.
 pub fn ended(rt: &impl Eprint, program: &str, end: io::Result<ExitCode>) -> ExitCode

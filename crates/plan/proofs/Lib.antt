@@ -1,2 +1,0 @@
-pub mod Accepting
-pub mod Telling

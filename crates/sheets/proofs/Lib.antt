@@ -1,0 +1,7 @@
+pub mod Accepting
+pub mod EnteredTurns
+pub mod Meeting
+pub mod Printed
+pub mod RowsTold
+pub mod SheetTurns
+pub mod Telling

@@ -1,0 +1,6 @@
+pub mod Entered
+pub mod Met
+pub mod ReportTexts
+pub mod Reports
+pub mod Texts
+pub mod Told
