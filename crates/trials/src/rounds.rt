@@ -78,7 +78,7 @@ fn largest_lists(rt: HostRuntime) -> Result<(), Fail> {
 fn random_lists_beside_a_search(rt: HostRuntime) -> Result<(), Fail> {
     let heap = rt.alloc();
     let mut random = Random::new(7);
-    for _ in 0..400 {
+    for _ in 0..3000 {
         let mut meetings = Vec::new(heap);
         for _ in 0..random.below(6) {
             let group = random.below(3);
