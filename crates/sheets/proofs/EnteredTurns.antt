@@ -1,6 +1,6 @@
 -- The rows of a side have the meetings so far: at first none, a meeting with a round adds one entry, and one without adds none.
 -- Assumes nothing.
-use Rattle.std.proofs.Common.{◌≡◌, ℕ, suc, ◌+◌, ◌*◌, ◌<◌, ◌≤◌, Option, Some, None, List, length, get_or, set, replicate, sym, refl, ap, ◌∙◌, ⊎_elim, subst, mul-le-mul_right, suc-mul, arith}
+use Rattle.std.proofs.Common.{◌≡◌, ℕ, ◌+◌, ◌*◌, ◌<◌, ◌≤◌, Option, Some, None, List, length, get_or, set, replicate, sym, refl, ap, ◌∙◌, ⊎_elim, subst, mul-le-mul_right, suc-mul, arith}
 use Rattle.std.proofs.lemmas.List.{get_or-replicate, get_or-set_other, get_or-set_same, length-replicate, length-set}
 use Rattle.std.proofs.lemmas.Bool.{cases_eq}
 use Rattle.meetings.specs.declared.numbers.Meeting.{Meeting}

@@ -1,5 +1,5 @@
 -- What is answered where the sheets of a plan are printed. Assumes nothing.
-use Rattle.std.proofs.Common.{Err, Ok, Result, String, Global, ◌≡◌, ℕ, List, inl, inr, refl, ap, sym, ◌∙◌, string_bytes}
+use Rattle.std.proofs.Common.{Err, Ok, Result, String, Global, ◌≡◌, ℕ, List, inl, inr, ap, sym, ◌∙◌, string_bytes}
 use Rattle.meetings.specs.declared.refusal.Refusal.{Refusal}
 use Rattle.meetings.specs.Lists.{Contents}
 use Rattle.meetings.specs.Refusals.{Answers, IfMemory, accepted, then}

@@ -2,7 +2,7 @@
 use Rattle.std.proofs.Common.{Some, ◌≢◌, ◌+◌, ◌*◌, eqb, get_or, set, ap, ◌∙◌, rules, arith}
 use Rattle.std.proofs.lemmas.Bool.{both_ways, eq-eqb}
 use Rattle.std.proofs.lemmas.List.{get_or_default}
-use Rattle.meetings.specs.Lists.{other_side, nobody, party}
+use Rattle.meetings.specs.Lists.{nobody, party}
 use Rattle.fewest.specs.Plans.{none}
 use Rattle.chains.specs.Partial.{party_of, round_of}
 use Rattle.sheets.proofs.EnteredTurns.{entered_more}

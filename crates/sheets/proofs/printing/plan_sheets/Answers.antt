@@ -1,5 +1,4 @@
 -- A plan that is accepted is printed by its rows.
-use Rattle.std.proofs.Common.{rules}
 use Rattle.meetings.specs.Held.{contents}
 use Rattle.meetings.proofs.Outcomes.{accepted_from_ok}
 use Rattle.sheets.proofs.Printed.{printed_answers}
