@@ -99,9 +99,12 @@ expect 0 "$school" '' $day examples/school.day examples/school.changes
 expect 0 "$school" '' $day - examples/school.changes <examples/school.day
 expect 0 "$school" '' $day examples/school.day - <examples/school.changes
 expect 0 'usage: day DAY CHANGES *PLAN*' '' $day --help
-expect 1 '' 'day: two or three files are needed*day --help*' $day
-expect 1 '' 'day: two or three files are needed*day --help*' $day examples/school.day
-expect 1 '' 'day: two or three files are needed*day --help*' $day examples/school.day examples/school.changes "$work/plan" "$work/plan"
+expect 1 '' 'day: two to four files are needed*day --help*' $day
+expect 1 '' 'day: two to four files are needed*day --help*' $day examples/school.day
+expect 1 '' 'day: two to four files are needed*day --help*' $day examples/school.day examples/school.changes "$work/plan" "$work/list" "$work/plan"
+for list in - "$work/plan" examples/school.day examples/school.changes; do
+    expect 1 '' 'day: the plan needs a file of its own*and so does its list*day --help*' $day examples/school.day examples/school.changes "$work/plan" "$list"
+done
 expect 1 '' 'day: only one of the two files can be standard input*day --help*' $day - - <examples/school.day
 expect 1 '' "day: cannot read no-such.day: No such file*. Name the file with the day's meetings." $day no-such.day examples/school.changes
 expect 1 '' 'day: cannot read no-such.changes: No such file*. Name the file with the row of changes.' $day examples/school.day no-such.changes
@@ -242,15 +245,16 @@ expect 1 'refused 10 at 2' '' $sheet "$work/day" "$work/plan"
 bytes '\x02\x02\x00\x00\x00'
 expect 1 'refused 2 at 2' '' $sheet "$work/day" "$work/plan"
 
-# What plan and day write is accepted: for the list of the day where nothing is changed, or where no meeting is added and there are
-# as many rooms in the end.
-# written LIST ROW CHECKED: of this list and row a plan is written, and accepted for the list CHECKED.
+# What plan and day write is accepted: for the list of the day, and for the one that day writes, which can be had as sheets, too.
+# written LIST ROW LAST: of this list and row a plan is written, and the list LAST, for which it is accepted.
 written() {
     row "$2"
     bytes "$1"
-    expect 0 '*' '' $day "$work/day" "$work/row" "$work/plan"
+    expect 0 '*' '' $day "$work/day" "$work/row" "$work/plan" "$work/list"
     bytes "$3"
-    expect 0 accepted '' $checker "$work/day" "$work/plan"
+    same "$work/list" "$work/day"
+    expect 0 accepted '' $checker "$work/list" "$work/plan"
+    expect 0 'group 0*' '' $sheet "$work/list" "$work/plan"
 }
 list='\x03\x03\x03\x04\x00\x00\x00\x01\x00\x02\x02\x01\x02'
 bytes "$list"
@@ -266,8 +270,9 @@ written "$list" '\x02\x01\x01\x00\x00\x02\x01' '\x03\x03\x02\x05\x00\x00\x00\x01
 most() { printf '\x78\x78\x01%b' "$1" && head -c "$2" /dev/zero; }
 most '\x9f\x0f' 7998 >"$work/day"
 row '\x00\x00\x00'
-expect 0 'rounds 4000 moved 0' '' $day "$work/day" "$work/row" "$work/plan"
+expect 0 'rounds 4000 moved 0' '' $day "$work/day" "$work/row" "$work/plan" "$work/list"
 most '\xa0\x0f' 8000 >"$work/day"
+same "$work/list" "$work/day"
 expect 0 accepted '' $checker "$work/day" "$work/plan"
 # Meetings 0 to 2 are dropped, and a room is given up and got.
 row '\x01\x00\x00\x02\x01\x01\x00\x03\x01\x02\x00'

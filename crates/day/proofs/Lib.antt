@@ -1,2 +1,3 @@
 pub mod Last
+pub mod Listed
 pub mod Telling

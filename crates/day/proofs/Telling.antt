@@ -4,6 +4,7 @@ use Rattle.std.proofs.Common.{◌≡◌, ℕ, ◌*◌, ◌≤◌, List, [], Vec,
 use Rattle.meetings.specs.declared.list.MeetingList.{MeetingList}
 use Rattle.meetings.specs.declared.refusal.Refusal.{Refusal}
 use Rattle.meetings.specs.declared.refusal.Refusal.TheVariants.{Memory}
+use Rattle.meetings.specs.Bytes.{bytes_of, read_list}
 use Rattle.meetings.specs.Held.{contents}
 use Rattle.meetings.specs.Lists.{most, most_meetings}
 use Rattle.meetings.specs.Refusals.{Answers, IfMemory, Outcome, accepted, then}
@@ -11,6 +12,7 @@ use Rattle.meetings.specs.RoundTrips.{AllBytes}
 use Rattle.meetings.proofs.Accepted.{read_then_written}
 use Rattle.meetings.proofs.Holds.{proper}
 use Rattle.meetings.proofs.Outcomes.{accepted_from_ok}
+use Rattle.meetings.proofs.Written.{written_then_read}
 use Rattle.changes.specs.declared.change.Change.{Change}
 use Rattle.changes.specs.declared.changed.Changed.{Changed}
 use Rattle.changes.specs.Days.{first_day}
@@ -21,7 +23,7 @@ use Rattle.changes.proofs.LentEnough.{lent_enough}
 use Rattle.changes.proofs.RowAccepted.{tested_as_made}
 use Rattle.changes.proofs.RowAccepted as row
 use Rattle.plans.specs.Bytes.{bytes_of_plan}
-use Rattle.plans.specs.Checking.{checked_bytes}
+use Rattle.plans.specs.Checking.{checked_bytes, fine}
 use Rattle.plans.proofs.MadeWritten.{standing_written}
 use Rattle.day.specs.declared.making.Made.{Made}
 use Rattle.day.specs.Reports.{AcceptedFor, last_of, plan_last}
@@ -53,3 +55,12 @@ made_accepted day changes byte byte' (Ok m) written =
     λ d cs is_list is_row bytes says. ap (checked_bytes bytes) (written d cs is_list is_row)
     ∙ standing_written bytes (last_of d cs) (stands_last d cs (read_then_written day d byte is_list).0 (row.read_then_written (whole d) changes cs byte' is_row).0) says
 made_accepted day changes byte byte' (Err e) written = tt
+
+-- and it is so for the list that is made beside it
+pub list_accepted : (day changes : List ℕ) → AllBytes day → AllBytes changes → (o : Result Made Refusal) → IfOk o (λ m. OfRow day changes (λ d cs. vec_items m.plan ≡ bytes_of_plan (plan_last d cs))) → IfOk o (λ m. OfRow day changes (λ d cs. vec_items m.list ≡ bytes_of (last_of d cs).list)) → IfOk o (λ m. OfRow day changes (λ d cs. checked_bytes (vec_items m.list) (vec_items m.plan) ≡ fine))
+list_accepted day changes byte byte' (Ok m) plan list =
+    λ d cs is_list is_row.
+    let stands = stands_last d cs (read_then_written day d byte is_list).0 (row.read_then_written (whole d) changes cs byte' is_row).0 in
+    made_accepted day changes byte byte' (Ok m) plan d cs is_list is_row (vec_items m.list)
+    (ap read_list (list d cs is_list is_row) ∙ written_then_read (last_of d cs).list stands.proper)
+list_accepted day changes byte byte' (Err e) plan list = tt

@@ -1,1 +1,2 @@
+pub mod Lists
 pub mod Reports

@@ -1,5 +1,6 @@
 // Making a row of changes on a day.
 ghost use Rattle.std.specs.Prelude.{◌≡◌, ℕ, ◌*◌, ◌≤◌, List, length, take, IfOk};
+ghost use Rattle.meetings.specs.Bytes.{bytes_of};
 ghost use Rattle.meetings.specs.Held.{contents};
 ghost use Rattle.meetings.specs.Lists.{most, most_meetings};
 ghost use Rattle.meetings.specs.Refusals.{Answers, IfMemory};
@@ -9,8 +10,10 @@ ghost use Rattle.changes.specs.Numbered.{whole};
 ghost use Rattle.changes.specs.Rows.{CanAll};
 ghost use Rattle.changes.specs.Told.{OfRow, RowPromised, told};
 ghost use Rattle.plans.specs.Bytes.{bytes_of_plan};
+ghost use Rattle.plans.specs.Checking.{checked_bytes, fine};
 ghost use Rattle.day.specs.Reports.{AcceptedFor, KeepsPromise, added, last_of, plan_last, rounds_after, told_of};
 
+use crate::listing::list_told;
 use changes::{Change, Changed, change_day, read_changes};
 use fewest::fewest_rounds;
 use meetings::{MeetingList, Refusal, read};
@@ -30,11 +33,12 @@ fn lent(heap: Global, long: usize) -> Result<Vec<u16>, Refusal>
     Ok(vec![in heap; 0u16; long]?)
 }
 
-// What is told of each change, and the bytes of the last plan.
+// What is told of each change, and the bytes of the last plan and of the list that it is for.
 #[derive(Drop)]
 pub(crate) struct Made {
     pub(crate) told: Vec<Changed>,
     pub(crate) plan: Vec<u8>,
+    pub(crate) list: Vec<u8>,
 }
 
 // How many meetings a row adds.
@@ -48,7 +52,7 @@ fn added(changes: &[Change]) -> usize
 }
 
 // How many numbers of meetings are given out in the end, those of the list and of the added ones.
-fn numbers(list: &MeetingList, changes: &[Change]) -> usize
+pub(crate) fn numbers(list: &MeetingList, changes: &[Change]) -> usize
     requires { CanAll (whole (contents list.now)) changes.now }
     ensures all { result ≡ length (last_of (contents list.now) changes.now).list.meetings }
     ensures few { result ≤ most_meetings }
@@ -105,11 +109,12 @@ fn changed_in(
     change_day(heap, list, changes, rounds, group_rows, station_rows)
 }
 
-// What is told of a row, and the last plan. Only memory can be wanting.
+// What is told of a row, the last plan and its list. Only memory can be wanting.
 fn made_on(heap: Global, list: &MeetingList, changes: &[Change]) -> Result<Made, Refusal>
     requires { CanAll (whole (contents list.now)) changes.now }
     ensures told { IfMemory result (λ m. m.told.items ≡ told (first_day (contents list.now)) changes.now) }
     ensures plan { IfOk result (λ m. m.plan.items ≡ bytes_of_plan (plan_last (contents list.now) changes.now)) }
+    ensures list { IfOk result (λ m. m.list.items ≡ bytes_of (last_of (contents list.now) changes.now).list) }
     ensures promised { IfOk result (λ m. (xs : List ℕ) × RowPromised (contents list.now) changes.now m.told.items xs) }
 {
     let mut rounds = lent(heap, MOST_MEETINGS)?;
@@ -124,13 +129,15 @@ fn made_on(heap: Global, list: &MeetingList, changes: &[Change]) -> Result<Made,
         &mut station_rows,
     )?;
     let plan = plan_told(heap, list, changes, &told, &rounds)?;
-    Ok(Made { told, plan })
+    let list = list_told(heap, list, changes)?;
+    Ok(Made { told, plan, list })
 }
 
 // The same of the list and the row that the bytes say. There are rounds of the last day of which the promise of a row holds.
 fn made_by_rule(heap: Global, day: &[u8], changes: &[u8]) -> Result<Made, Refusal>
     ensures told { Answers (λ m. m.told.items) result (told_of day.now changes.now) }
     ensures plan { IfOk result (λ m. OfRow day.now changes.now (λ d cs. m.plan.items ≡ bytes_of_plan (plan_last d cs))) }
+    ensures list { IfOk result (λ m. OfRow day.now changes.now (λ d cs. m.list.items ≡ bytes_of (last_of d cs).list)) }
     ensures promised { IfOk result (λ m. KeepsPromise day.now changes.now m.told.items) }
 {
     let list = read(heap, day)?;
@@ -138,11 +145,13 @@ fn made_by_rule(heap: Global, day: &[u8], changes: &[u8]) -> Result<Made, Refusa
     made_on(heap, &list, &changes)
 }
 
-// And the rule of checking accepts the plan, for all bytes that say the list of the last day.
+// And the rule of checking accepts the plan, for all bytes that say the list of the last day, so for those that are made here.
 pub(crate) fn made_of(heap: Global, day: &[u8], changes: &[u8]) -> Result<Made, Refusal>
     ensures told { Answers (λ m. m.told.items) result (told_of day.now changes.now) }
     ensures plan { IfOk result (λ m. OfRow day.now changes.now (λ d cs. m.plan.items ≡ bytes_of_plan (plan_last d cs))) }
+    ensures list { IfOk result (λ m. OfRow day.now changes.now (λ d cs. m.list.items ≡ bytes_of (last_of d cs).list)) }
     ensures accepted { IfOk result (λ m. OfRow day.now changes.now (λ d cs. AcceptedFor (last_of d cs).list m.plan.items)) }
+    ensures checked { IfOk result (λ m. OfRow day.now changes.now (λ d cs. checked_bytes m.list.items m.plan.items ≡ fine)) }
     ensures promised { IfOk result (λ m. KeepsPromise day.now changes.now m.told.items) }
 {
     made_by_rule(heap, day, changes)
