@@ -2,6 +2,8 @@
 use balance::Planned;
 use changes::Changed;
 use sheets::{Report, changes_text, made_of, report_text};
+use std::alloc::Global;
+use std::process::Abort;
 use std::test::Fail;
 
 // The list of the document on bytes: one group, two stations, nine rooms, and three meetings.
@@ -27,19 +29,26 @@ meeting 0 round 259
 meeting 1 round 65535
 ";
 
-#[test]
-fn worked_reports(rt: HostRuntime) -> Result<(), Fail> {
-    let heap = rt.alloc();
-    let cases: [(&[u8], &str, &[u8]); 2] = [
-        (&DAY, OF_DAY, &[3, 0, 0, 0, 1, 0, 2, 0]),
-        // no meetings
-        (&[1, 2, 9, 0, 0], "rounds 0 looks 0\n", &[0, 0]),
-    ];
-    for (day, right, plan) in cases {
-        let made = made_of(heap, day)?;
-        assert_eq!(rt; report_text(heap, &made.report)?.as_str(), right);
-        assert_eq!(rt; made.plan.as_slice(), plan);
-    }
+const OF_CHANGES: &str = "\
+rounds 120 moved 31
+rounds 2 moved 0
+";
+
+fn check_made(
+    rt: &impl Abort,
+    heap: Global,
+    day: &[u8],
+    right: &str,
+    plan: &[u8],
+) -> Result<(), Fail> {
+    let made = made_of(heap, day)?;
+    let text = report_text(heap, &made.report)?;
+    assert_eq!(rt; text.as_str(), right);
+    assert_eq!(rt; made.plan.as_slice(), plan);
+    Ok(())
+}
+
+fn check_large(rt: &impl Abort, heap: Global) -> Result<(), Fail> {
     let large = Report {
         planned: Planned {
             rounds: 260,
@@ -48,7 +57,29 @@ fn worked_reports(rt: HostRuntime) -> Result<(), Fail> {
         of_rounds: vec![in heap; 4000, 0, 10]?,
         of_meetings: vec![in heap; 259, 65535]?,
     };
-    assert_eq!(rt; report_text(heap, &large)?.as_str(), LARGE);
+    let text = report_text(heap, &large)?;
+    assert_eq!(rt; text.as_str(), LARGE);
+    Ok(())
+}
+
+fn check_changes(
+    rt: &impl Abort,
+    heap: Global,
+    changes: &[Changed],
+    right: &str,
+) -> Result<(), Fail> {
+    let text = changes_text(heap, changes)?;
+    assert_eq!(rt; text.as_str(), right);
+    Ok(())
+}
+
+#[test]
+fn worked_reports(rt: HostRuntime) -> Result<(), Fail> {
+    let heap = rt.alloc();
+    check_made(&rt, heap, &DAY, OF_DAY, &[3, 0, 0, 0, 1, 0, 2, 0])?;
+    // no meetings
+    check_made(&rt, heap, &[1, 2, 9, 0, 0], "rounds 0 looks 0\n", &[0, 0])?;
+    check_large(&rt, heap)?;
     let changes = [
         Changed {
             rounds: 120,
@@ -61,8 +92,6 @@ fn worked_reports(rt: HostRuntime) -> Result<(), Fail> {
             moved: 0,
         },
     ];
-    let right = "rounds 120 moved 31\nrounds 2 moved 0\n";
-    assert_eq!(rt; changes_text(heap, &changes)?.as_str(), right);
-    assert_eq!(rt; changes_text(heap, &[])?.as_str(), "");
-    Ok(())
+    check_changes(&rt, heap, &changes, OF_CHANGES)?;
+    check_changes(&rt, heap, &[], "")
 }

@@ -87,16 +87,63 @@ fn worked_texts(rt: HostRuntime) -> Result<(), Fail> {
     Ok(())
 }
 
-// Numbers of one, two, three and four digits end in one column. Lines are counted from 0, and a sheet of 120 rounds has 123.
+// Lines by their numbers, from 0. A sheet of 120 rounds has 123.
+type Lines<'a> = &'a [(usize, &'a str)];
+
+// One group meets 120 stations, the last one first.
+const OF_ONE_GROUP: [(usize, &str); 19] = [
+    (0, "group 0"),
+    (1, "round  station"),
+    (2, "    0      119"),
+    (11, "    9      110"),
+    (12, "   10      109"),
+    (22, "   20       99"),
+    (101, "   99       20"),
+    (102, "  100       19"),
+    (112, "  110        9"),
+    (121, "  119        0"),
+    (122, ""),
+    (123, "station 0"),
+    (125, "    0     free"),
+    (225, "  100     free"),
+    (244, "  119        0"),
+    (1353, "station 10"),
+    (14760, "station 119"),
+    (14762, "    0        0"),
+    (14882, ""),
+];
+
+// 120 groups come to one station, the last one first.
+const OF_ONE_STATION: [(usize, &str); 7] = [
+    (12300, "group 100"),
+    (14760, "station 0"),
+    (14761, "round    group"),
+    (14762, "    0      119"),
+    (14772, "   10      109"),
+    (14871, "  109       10"),
+    (14881, "  119        0"),
+];
+
+// One pair meets 4,000 times, in rounds of four digits too.
+const OF_ONE_PAIR: [(usize, &str); 6] = [
+    (2, "    0        0"),
+    (1001, "  999        0"),
+    (1002, " 1000        0"),
+    (4001, " 3999        0"),
+    (4002, ""),
+    (4003, "station 0"),
+];
+
+// The meetings of a list with one room are in rounds of their own, the last one first.
 fn check_lines(
     rt: &impl Abort,
     heap: Global,
     day: &[u8],
-    of_meetings: &[u16],
     rounds: u16,
-    lines: &[(usize, &str)],
+    lines: Lines<'_>,
 ) -> Result<(), Fail> {
-    let plan = write_plan(heap, rounds, of_meetings)?;
+    let backwards = (0..rounds).rev().collect::<Vec<_>>(heap)?;
+    let plan = write_plan(heap, rounds, &backwards)?;
     let text = print_sheets(heap, day, &plan)?;
     for (at, right) in lines {
         assert_eq!(rt; text.lines().nth(*at), Some(*right), "{at}");
@@ -104,65 +151,21 @@ fn check_lines(
     Ok(())
 }
 
+// Numbers of one digit and of more end in one column.
 #[test]
 fn numbers_in_columns(rt: HostRuntime) -> Result<(), Fail> {
     let heap = rt.alloc();
-    // one group meets 120 stations, the last one first
     let meetings = (0..120u8)
-        .map(|station| (0u8, station))
+        .map(|number| (0u8, number))
         .collect::<Vec<_>>(heap)?;
     let day = bytes_of(heap, 1, 120, 1, &meetings)?;
-    let backwards = (0..120u16).rev().collect::<Vec<_>>(heap)?;
-    let of_one_group = [
-        (0, "group 0"),
-        (1, "round  station"),
-        (2, "    0      119"),
-        (11, "    9      110"),
-        (12, "   10      109"),
-        (22, "   20       99"),
-        (101, "   99       20"),
-        (102, "  100       19"),
-        (112, "  110        9"),
-        (121, "  119        0"),
-        (122, ""),
-        (123, "station 0"),
-        (124, "round    group"),
-        (125, "    0     free"),
-        (225, "  100     free"),
-        (244, "  119        0"),
-        (245, ""),
-        (1353, "station 10"),
-        (14760, "station 119"),
-        (14762, "    0        0"),
-        (14882, ""),
-    ];
-    check_lines(&rt, heap, &day, &backwards, 120, &of_one_group)?;
-    // 120 groups come to one station, the last one first
+    check_lines(&rt, heap, &day, 120, &OF_ONE_GROUP)?;
     let meetings = (0..120u8)
-        .map(|group| (group, 0u8))
+        .map(|number| (number, 0u8))
         .collect::<Vec<_>>(heap)?;
     let day = bytes_of(heap, 120, 1, 1, &meetings)?;
-    let of_one_station = [
-        (12300, "group 100"),
-        (14760, "station 0"),
-        (14761, "round    group"),
-        (14762, "    0      119"),
-        (14772, "   10      109"),
-        (14871, "  109       10"),
-        (14881, "  119        0"),
-        (14882, ""),
-    ];
-    check_lines(&rt, heap, &day, &backwards, 120, &of_one_station)?;
-    // one pair meets 4,000 times
+    check_lines(&rt, heap, &day, 120, &OF_ONE_STATION)?;
     let meetings = vec![in heap; (0u8, 0u8); 4000]?;
     let day = bytes_of(heap, 1, 1, 1, &meetings)?;
-    let forwards = (0..4000u16).collect::<Vec<_>>(heap)?;
-    let of_one_pair = [
-        (1001, "  999        0"),
-        (1002, " 1000        0"),
-        (4001, " 3999        0"),
-        (4002, ""),
-        (4003, "station 0"),
-    ];
-    check_lines(&rt, heap, &day, &forwards, 4000, &of_one_pair)
+    check_lines(&rt, heap, &day, 4000, &OF_ONE_PAIR)
 }
