@@ -1,5 +1,5 @@
 // Reading a plan from its bytes.
-ghost use Rattle.std.specs.Prelude.{◌≡◌, ◌+◌, ◌<◌, ◌≤◌, ◌*◌, ◌^◌, length, IfOk};
+ghost use Rattle.std.specs.Prelude.{◌≡◌, ◌+◌, ◌<◌, ◌≤◌, ◌*◌, length, IfOk};
 ghost use Rattle.meetings.specs.Held.{contents};
 ghost use Rattle.meetings.specs.Refusals.{Answers, IfMemory};
 ghost use Rattle.plans.specs.Bytes.{bytes_of_plan, long_for, number_at, numbers_at, read_plan};

@@ -1,5 +1,5 @@
 // Which parties of a side were seen in which rounds.
-ghost use Rattle.std.specs.Prelude.{◌≡◌, ◌+◌, ◌*◌, ◌<◌, ◌≤◌, true, false, length, slice_index_or, slice_set};
+ghost use Rattle.std.specs.Prelude.{◌≡◌, ◌+◌, ◌*◌, ◌<◌, true, false, length, slice_index_or, slice_set};
 
 // Whether a party was seen in a round before; it was then, too. A mark for each of so many rounds of each party.
 pub(crate) fn see(marks: &mut [bool], rounds: u16, party: u16, round: u16) -> bool

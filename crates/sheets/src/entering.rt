@@ -1,8 +1,7 @@
 // Entering meetings in the rows of a side.
-ghost use Rattle.std.specs.Prelude.{◌≡◌, ℕ, ◌+◌, ◌*◌, ◌<◌, ◌≤◌, Some, length, slice_set, ◌≢◌};
-ghost use Rattle.meetings.specs.Lists.{other_side};
+ghost use Rattle.std.specs.Prelude.{◌≡◌, ℕ, ◌+◌, ◌*◌, ◌<◌, Some, length, slice_set, ◌≢◌};
 ghost use Rattle.fewest.specs.Plans.{none};
-ghost use Rattle.chains.specs.Partial.{party_of, round_of};
+ghost use Rattle.chains.specs.Partial.{round_of};
 ghost use Rattle.sheets.specs.Entered.{Entered};
 
 use meetings::{Meeting, Side};

@@ -1,12 +1,10 @@
 // Making the sheets of a plan.
-ghost use Rattle.std.specs.Prelude.{◌≡◌, ℕ, ◌*◌, ◌<◌, ◌≤◌, List, length, IfOk, take, drop, Option, ◌≢◌};
+ghost use Rattle.std.specs.Prelude.{◌≡◌, IfOk};
 ghost use Rattle.meetings.specs.Held.{contents};
 ghost use Rattle.meetings.specs.Lists.{parties};
 ghost use Rattle.meetings.specs.Refusals.{Answers, IfMemory};
-ghost use Rattle.fewest.specs.Plans.{none};
 ghost use Rattle.chains.specs.Partial.{Partial};
 ghost use Rattle.plans.specs.Checking.{checked};
-ghost use Rattle.sheets.specs.Met.{row_of};
 ghost use Rattle.sheets.specs.Told.{RowsOf, SheetsOf};
 
 use crate::entering::enter_all;

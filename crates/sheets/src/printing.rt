@@ -1,5 +1,5 @@
 // The sheets that bytes say, as text.
-ghost use Rattle.std.specs.Prelude.{◌≡◌, string_bytes};
+ghost use Rattle.std.specs.Prelude.{string_bytes};
 ghost use Rattle.meetings.specs.Held.{contents};
 ghost use Rattle.meetings.specs.Refusals.{Answers, accepted, then};
 ghost use Rattle.plans.specs.Checking.{checked};

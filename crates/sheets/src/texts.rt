@@ -1,7 +1,6 @@
 // The text of sheets.
-ghost use Rattle.std.specs.Prelude.{◌≡◌, ℕ, ◌++◌, ◌∷◌, ◌-◌, ◌≤◌, ◌<◌, [], length, string_bytes};
+ghost use Rattle.std.specs.Prelude.{◌≡◌, ◌++◌, ◌∷◌, ◌≤◌, [], length, string_bytes};
 ghost use Rattle.meetings.specs.Held.{contents};
-ghost use Rattle.meetings.specs.Lists.{parties};
 ghost use Rattle.meetings.specs.Refusals.{IfMemory};
 ghost use Rattle.sheets.specs.Texts.{both_text, heading, lines_text, sheet_text, side_text, title};
 ghost use Rattle.sheets.specs.Told.{row_in};
