@@ -1,13 +1,12 @@
 -- What is told is what the rule says: slices that are long enough for 120 parties and 4,000 rounds are refused for no list and no
 -- row. And the plan that is written is accepted. Assumes nothing.
-use Rattle.std.proofs.Common.{◌≡◌, ℕ, ◌*◌, ◌≤◌, List, [], Vec, Global, Ok, Err, Result, IfOk, vec_items, sym, ap, ◌∙◌, ⊎_elim, mul-le-mul_right, arith}
+use Rattle.std.proofs.Common.{◌≡◌, ℕ, ◌*◌, ◌≤◌, List, [], Vec, Global, Ok, Err, Result, IfOk, vec_items, sym, ap, ◌∙◌, mul-le-mul_right, arith}
 use Rattle.meetings.specs.declared.list.MeetingList.{MeetingList}
 use Rattle.meetings.specs.declared.refusal.Refusal.{Refusal}
-use Rattle.meetings.specs.declared.refusal.Refusal.TheVariants.{Memory}
 use Rattle.meetings.specs.Bytes.{bytes_of, read_list}
 use Rattle.meetings.specs.Held.{contents}
 use Rattle.meetings.specs.Lists.{most, most_meetings}
-use Rattle.meetings.specs.Refusals.{Answers, IfMemory, Outcome, accepted, then}
+use Rattle.meetings.specs.Refusals.{Answers, IfMemory, accepted, then}
 use Rattle.meetings.specs.RoundTrips.{AllBytes}
 use Rattle.meetings.proofs.Accepted.{read_then_written}
 use Rattle.meetings.proofs.Holds.{proper}
@@ -24,17 +23,11 @@ use Rattle.changes.proofs.RowAccepted.{tested_as_made}
 use Rattle.changes.proofs.RowAccepted as row
 use Rattle.plans.specs.Bytes.{bytes_of_plan}
 use Rattle.plans.specs.Checking.{checked_bytes, fine}
+use Rattle.plans.proofs.OnlyMemory.{only_memory}
 use Rattle.plans.proofs.MadeWritten.{standing_written}
 use Rattle.day.specs.declared.making.Made.{Made}
 use Rattle.day.specs.Reports.{AcceptedFor, last_of, plan_last}
 use Rattle.day.proofs.Last.{stands_last}
-
-same : (ts us : List Changed) → accepted ts ≡ accepted us → ts ≡ us
-same ts us e = cc
-
--- a rule that accepts is refused only for want of memory
-only_memory : (e : Refusal) (ts : List Changed) (o : Outcome (List Changed)) → o ≡ accepted ts → Answers {X = Vec Changed Global} vec_items (Err e) o → e ≡ Memory
-only_memory e ts o ok a = ⊎_elim (λ m. cc) (λ m. absurd (let z : ◌≡◌ {A = ℕ} 0 1 = cc in omega arith)) a
 
 module _ (l : MeetingList) (cs : List Change) (can : CanAll (whole (contents l)) cs) (lr lg ls : ℕ) (er : most_meetings ≤ lr) (eg : most * most_meetings ≤ lg) (es : most * most_meetings ≤ ls) where
   wide : (n long : ℕ) → n ≤ most → most * most_meetings ≤ long → n * most_meetings ≤ long
@@ -46,8 +39,8 @@ module _ (l : MeetingList) (cs : List Change) (can : CanAll (whole (contents l))
       ∙ ap (λ o. then o (λ t. accepted (told (first_day (contents l)) cs))) (tested_as_made (whole (contents l)) cs 0 [] can)
 
   pub told_exactly : (o : Result (Vec Changed Global) Refusal) → Answers vec_items o (answer_of (contents l) cs lr lg ls) → IfMemory o (λ ts. vec_items ts ≡ told (first_day (contents l)) cs)
-  told_exactly (Ok ts) answer = same _ _ (sym (accepted_from_ok vec_items ts answer) ∙ answered)
-  told_exactly (Err e) answer = only_memory e _ _ answered answer
+  told_exactly (Ok ts) answer = row.same _ _ (sym (accepted_from_ok vec_items ts answer) ∙ answered)
+  told_exactly (Err e) answer = only_memory vec_items e _ _ answered answer
 
 -- the plan of a row is accepted
 pub made_accepted : (day changes : List ℕ) → AllBytes day → AllBytes changes → (o : Result Made Refusal) → IfOk o (λ m. OfRow day changes (λ d cs. vec_items m.plan ≡ bytes_of_plan (plan_last d cs))) → IfOk o (λ m. OfRow day changes (λ d cs. AcceptedFor (last_of d cs).list (vec_items m.plan)))

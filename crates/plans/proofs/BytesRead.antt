@@ -5,6 +5,7 @@ use Rattle.std.proofs.lemmas.List.{drop-drop, drop_all, drop_more, get_or-drop}
 use Rattle.meetings.specs.Refusals.{accepted, refused}
 use Rattle.meetings.specs.RoundTrips.{AllBytes}
 use Rattle.meetings.proofs.Outcomes.{unless_refused}
+use Rattle.changes.proofs.RowAccepted.{same}
 use Rattle.plans.specs.Bytes.{ReadThenWritten, WrittenThenRead, bytes_of_numbers, bytes_of_plan, long_for, number_at, numbers_at, read_plan}
 use Rattle.plans.specs.Given.{Given}
 
@@ -37,9 +38,6 @@ module _ (bs : List ℕ) (byte : AllBytes bs) where
       ∙ ap (λ y. get_or bs at 0 ∷ y ∷ bytes_of_numbers (numbers_at bs many (at + 2))) (high (get_or bs at 0) (get_or bs (at + 1) 0) (byte at))
       ∙ ap (λ l. get_or bs at 0 ∷ get_or bs (at + 1) 0 ∷ l) (numbers_back many (at + 2) (omega arith))
       ∙ sym (two_bytes bs at (omega arith))
-
-same : {T : Type 0} (x y : T) → accepted x ≡ accepted y → x ≡ y
-same x y e = cc
 
 -- what is accepted: the bytes are as long as they should be
 pub read_accepted : (many : ℕ) (bs : List ℕ) (p : Given) → read_plan many bs ≡ accepted p → (length bs ≡ long_for many) × (p ≡ record { rounds = number_at bs 0; at = numbers_at bs many 2 })

@@ -1,10 +1,12 @@
 pub mod Accepted
 pub mod BytesRead
 pub mod Dropping
+pub mod Entries
 pub mod FirstFault
 pub mod Made
 pub mod MadeWritten
 pub mod Marking
+pub mod OnlyMemory
 pub mod SeenBefore
 pub mod Tests
 pub mod Turns

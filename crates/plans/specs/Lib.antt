@@ -1,4 +1,5 @@
 pub mod Bytes
+pub mod Cells
 pub mod Checking
 pub mod Faults
 pub mod Given

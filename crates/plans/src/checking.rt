@@ -10,7 +10,7 @@ ghost use Rattle.plans.specs.Faults.{PlanOrFault};
 ghost use Rattle.plans.specs.Statements.{OfPlan};
 
 use crate::alone::nobody_twice;
-use crate::given::is_dropped;
+use crate::given::{bytes_for, is_dropped};
 use crate::kept::is_fewest;
 use crate::reading::read_plan;
 use crate::rooms::none_crowded;
@@ -24,10 +24,10 @@ fn as_long(many: usize, long: usize) -> Result<(), Refusal>
     ensures same { IfOk result (λ _. long ≡ many) }
 {
     if long < many {
-        return Err(Refusal::Length(2 + 2 * long));
+        return Err(Refusal::Length(bytes_for(long)));
     }
     if long > many {
-        return Err(Refusal::Length(2 + 2 * many));
+        return Err(Refusal::Length(bytes_for(many)));
     }
     Ok(())
 }

@@ -5,7 +5,7 @@ ghost use Rattle.meetings.specs.Refusals.{Answers, IfMemory};
 ghost use Rattle.plans.specs.Bytes.{bytes_of_plan, long_for, number_at, numbers_at, read_plan};
 ghost use Rattle.plans.specs.Given.{given};
 
-use crate::given::GivenPlan;
+use crate::given::{GivenPlan, bytes_for};
 use meetings::{MeetingList, Refusal};
 use std::alloc::Global;
 
@@ -38,7 +38,7 @@ pub fn read_plan(heap: Global, list: &MeetingList, bytes: &[u8]) -> Result<Given
     ensures back { IfOk result (λ p. bytes_of_plan (given p) ≡ bytes.now) }
 {
     let many = list.meetings().len();
-    let long = HEAD + 2 * many;
+    let long = bytes_for(many);
     if bytes.len() < long {
         return Err(Refusal::Length(bytes.len()));
     }

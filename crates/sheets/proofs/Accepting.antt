@@ -6,14 +6,12 @@ use Rattle.meetings.specs.Refusals.{Answers, accepted, then}
 use Rattle.meetings.specs.RoundTrips.{AllBytes}
 use Rattle.meetings.proofs.Accepted.{read_then_written}
 use Rattle.meetings.proofs.Outcomes.{accepted_from_ok, then_accepted}
+use Rattle.changes.proofs.RowAccepted.{same}
 use Rattle.plans.specs.Bytes.{bytes_of_plan}
 use Rattle.plans.specs.Checking.{checked_bytes, fine}
 use Rattle.plans.proofs.MadeWritten.{planned_written}
 use Rattle.sheets.specs.declared.report.Made.{Made}
 use Rattle.sheets.specs.Reports.{Told, plan_told, told, told_of}
-
-same : (t u : Told) → accepted t ≡ accepted u → t ≡ u
-same t u e = cc
 
 pub told_accepted : (day plan : List ℕ) (t : Told) → AllBytes day → then (read_list day) (λ d. accepted (told_of d)) ≡ accepted t → plan ≡ bytes_of_plan (plan_told t) → checked_bytes day plan ≡ fine
 told_accepted day plan t byte said is =

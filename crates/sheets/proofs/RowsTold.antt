@@ -23,7 +23,7 @@ module _ (d : Contents) (r : ℕ) (xs : List ℕ) (s : Side) (few : length d.mee
   entry_told p c h within =
       get_or-take r (drop (p * r) es) c None within
       ∙ get_or-drop (p * r) es c None
-      ∙ entry_is r d.meetings xs s p c few le part within (get_or es (p * r + c) None) (entered.tells p c within (omega (arith, ends_within p h)))
+      ∙ entry_is r d.meetings xs s p c few le part within (get_or es (p * r + c) None) (entered.each p c within (omega (arith, ends_within p h)))
       ∙ sym (get_or-map-range_with_len (met d.meetings xs s p) 0 r c c None within (omega arith))
 
   pub rows_told : RowsOf d r xs s es

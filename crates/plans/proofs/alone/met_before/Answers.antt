@@ -11,7 +11,7 @@ returns-clause-marks c =
     let ms = c.args.meetings.now in
     let xs = c.args.of_meetings.now in
     let bs = c.args.marks.now in
-    marks_more ms xs c.args.side c.args.rounds c.args.at bs c.requires.marks c.see.new.marks c.requires.here c.requires.below
+    marks_more ms xs c.args.side c.args.at c.args.rounds bs c.requires.marks c.see.new.marks c.requires.here c.requires.below
     (c.see.ensures.now
     ∙ ap (λ p. set bs (p * c.args.rounds + get_or xs c.args.at 0) true) c.party.ensures
     ∙ ap (λ x. set bs (party_of ms c.args.side c.args.at * c.args.rounds + x) true) (get_or_default xs c.args.at 0 none (omega (arith, c.requires.here, c.requires.each))))

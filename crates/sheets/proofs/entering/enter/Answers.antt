@@ -16,7 +16,7 @@ returns-then-not-is_dropped-clause-entered c =
     let s = c.args.side in
     let read = get_or_default xs c.args.at 0 none (omega (arith, c.requires.here, c.requires.each)) in
     let has : round_of xs c.args.at ≢ none = λ out. both_ways (eqb (get_or xs c.args.at 0) none) (search rules) (eq-eqb _ _ (read ∙ out)) in
-    entered_more ms xs s c.args.rounds c.args.at es c.requires.entered c.write_entry.new.rows c.requires.here (c.requires.below has)
+    entered_more ms xs s c.args.at c.args.rounds es c.requires.entered c.write_entry.new.rows c.requires.here (c.requires.below has)
     (c.write_entry.ensures
     ∙ ap (λ p. set es (p * c.args.rounds + get_or xs c.args.at 0) (Some c.party-then-not-is_dropped.result)) c.party.ensures
     ∙ ap (λ x. set es (party_of ms s c.args.at * c.args.rounds + x) (Some c.party-then-not-is_dropped.result)) read
