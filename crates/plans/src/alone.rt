@@ -13,7 +13,7 @@ use crate::seen::see;
 use meetings::{Meeting, MeetingId, MeetingList, Refusal, Side};
 use std::alloc::Global;
 
-// Whether the group or the station of a meeting was seen in the meeting's round before; it was then, too.
+// Whether the group or the station of a meeting was seen in the meeting's round before. It is marked as seen there.
 fn met_before(
     meetings: &[Meeting],
     of_meetings: &[u16],
@@ -32,7 +32,7 @@ fn met_before(
     see(marks, rounds, meetings[at].party(side), of_meetings[at])
 }
 
-// Nobody of a meeting was seen in its round before: first its group is looked at, then its station.
+// Neither party of a meeting was seen in its round before: first its group is looked at, then its station.
 #[tactic(auto, using(crate::proofs::Marking::marks_passed))]
 fn meeting_alone(
     meetings: &[Meeting],
