@@ -1,0 +1,125 @@
+#!/usr/bin/env python3
+"""Plants wrong code, one place at a time, and prints what refuses each: planted.py [--copy FOLDER] [CRATE..].
+
+planted/CRATE/NAME.edit says a change of the crate's code, in the form of the must-fail edits: a file, the text there and the wrong text.
+Each is applied to a copy of the repository, and the crate is checked. Where the check passes, the tests of the crates that are named
+in a line 'tests: CRATE..' of the edit are run with the wrong code, unproved. Prints a row of a Markdown table for each, and answers the
+status 1 where one was refused by nothing, or could not be tried. With --copy the copy stays in that folder, and what was built there is
+used again.
+"""
+import argparse
+import re
+import shutil
+import subprocess
+import sys
+import tempfile
+from pathlib import Path
+
+TOP = Path(__file__).resolve().parent.parent
+LEFT_OUT = shutil.ignore_patterns("out", "target", ".git", "__pycache__")
+# Of each edit rt tells in one line what came of it, and of a refused one where, and the goal that is not proved.
+TOLD = re.compile(r"^rt: must-fail ([a-z_]+)/([A-Za-z0-9_]+)\.edit: ([A-Z ]+|refused, as it must be): ?(.*)$")
+PLACE = re.compile(r"^(?:note: )?((?:src|proofs|specs)/[^:]+)[:0-9]*: (.*)$")
+GOAL = re.compile(r"`([^`]*)`\)")
+
+
+def edit_of(path):
+    """The parts of an edit: its file, the pairs of old and new text, and the crates whose tests are to refuse it."""
+    file, pairs, tests = None, [], []
+    for line in path.read_text().splitlines():
+        word, _, text = line.partition(": ")
+        if word == "file":
+            file = text
+        elif word == "old":
+            pairs.append([text, ""])
+        elif word == "new":
+            pairs[-1][1] = text
+        elif word == "tests":
+            tests = text.split()
+    return file, pairs, tests
+
+
+def applied(copy, crate, path):
+    """Changes the code of the copy, and answers the file and its text before."""
+    file, pairs, _ = edit_of(path)
+    code = copy / "crates" / crate / file
+    before = code.read_text()
+    text = before
+    for old, new in pairs:
+        if text.count(old) != 1:
+            sys.exit(f"{path}: the old text is in {file} {text.count(old)} times")
+        text = text.replace(old, new)
+    code.write_text(text)
+    return code, before
+
+
+def refusing_tests(copy, crate, path):
+    """The tests that fail with the wrong code, of the crates that the edit names."""
+    code, before = applied(copy, crate, path)
+    failed = []
+    for name in edit_of(path)[2]:
+        done = subprocess.run(["rt", "try", "--test", "--seconds", "400"], cwd=copy / "crates" / name, capture_output=True, text=True)
+        failed += [f"{name} `{test}`" for test in re.findall(r"^test (\S+) \.\.\. FAILED", done.stdout + done.stderr, re.M)]
+    code.write_text(before)
+    return failed
+
+
+def checked(copy, crate, paths):
+    """What the check of the crate says of each edit, by its name."""
+    kept = copy / "crates" / crate / "must-fail"
+    shutil.rmtree(kept)
+    kept.mkdir()
+    for path in paths:
+        shutil.copy(path, kept)
+    done = subprocess.run(["rt", "must-fail", crate], cwd=copy, capture_output=True, text=True)
+    return {m[2]: (m[3], m[4]) for m in map(TOLD.match, done.stdout.splitlines() + done.stderr.splitlines()) if m}
+
+
+def shown(text):
+    """Code in a cell of a table."""
+    return "`" + text.strip().replace("|", "\\|") + "`"
+
+
+def row(copy, crate, path, said):
+    """The row of an edit, and whether something refused it."""
+    file, pairs, _ = edit_of(path)
+    verdict, why = said.get(path.stem, ("NOT TRIED", ""))
+    by = None
+    if verdict.startswith("refused"):
+        place, goal = PLACE.match(why), GOAL.search(why)
+        by = f"{place[1] if place else why}" + (f", `{goal[1]}`" if goal else f": {place[2]}" if place else "")
+    elif verdict == "NOT REFUSED":
+        tests = refusing_tests(copy, crate, path)
+        by = "only tests: " + ", ".join(tests) if tests else None
+    change = "<br>".join(f"{shown(old)} → {shown(new)}" for old, new in pairs)
+    return f"| {path.stem.replace('_', ' ')} | {file}: {change} | {by or '**' + verdict.strip().lower() + '** ' + why} |", by is not None
+
+
+def print_table(copy, crate):
+    """Tries the edits of a crate, and answers whether each was refused."""
+    paths = sorted((TOP / "planted" / crate).glob("*.edit"))
+    said = checked(copy, crate, paths)
+    print(f"## `{crate}`\n\n| Planted | Code | Refused by |\n|---|---|---|")
+    all_refused = True
+    for path in paths:
+        text, refused = row(copy, crate, path, said)
+        all_refused = all_refused and refused
+        print(text, flush=True)
+    print(flush=True)
+    return all_refused
+
+
+def main():
+    wanted = argparse.ArgumentParser()
+    wanted.add_argument("--copy", type=Path)
+    wanted.add_argument("crates", nargs="*")
+    wanted = wanted.parse_args()
+    crates = wanted.crates or sorted(folder.name for folder in (TOP / "planted").iterdir())
+    with tempfile.TemporaryDirectory() as folder:
+        copy = wanted.copy or Path(folder) / "copy"
+        shutil.copytree(TOP, copy, ignore=LEFT_OUT, dirs_exist_ok=True)
+        tables = [print_table(copy, crate) for crate in crates]
+    sys.exit(0 if all(tables) else 1)
+
+
+main()
