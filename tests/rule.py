@@ -6,17 +6,7 @@ the plan after the last. rule.py --sheets DAY prints the sheets of the plan inst
 """
 import sys
 
-
-class Refused(Exception):
-    pass
-
-
-def fewest(groups, stations, rooms, meetings):
-    busiest = 0
-    for side, parties in ((0, groups), (1, stations)):
-        for party in range(parties):
-            busiest = max(busiest, sum(1 for m in meetings if m[side] == party))
-    return max(busiest, -(-len(meetings) // rooms))
+from rule_bytes import NONE, Refused, changes_of, fewest, list_of
 
 
 def meeting_of(meetings, rounds, side, party, round):
@@ -86,8 +76,7 @@ class Day:
     """All meetings that ever had a number, those that were dropped, and the round of each."""
 
     def __init__(self, data):
-        self.groups, self.stations, self.rooms = data[:3]
-        self.meetings = [(data[i], data[i + 1]) for i in range(5, len(data), 2)]
+        self.groups, self.stations, self.rooms, self.meetings = list_of(data)
         self.dropped = set()
         self.rounds = [None] * len(self.meetings)
         self.looks = self.make()
@@ -125,36 +114,46 @@ class Day:
         looks = self.make()
         return looks, sum(1 for x, y in zip(before, self.rounds) if None not in (x, y) and x != y)
 
-    def print_plan(self):
+    def plan_lines(self):
         for c in range(self.many):
-            print(f"round {c} meetings {self.rounds.count(c)}")
+            yield f"round {c} meetings {self.rounds.count(c)}"
         for i, round in enumerate(self.rounds):
-            print(f"meeting {i} dropped" if round is None else f"meeting {i} round {round}")
+            yield f"meeting {i} dropped" if round is None else f"meeting {i} round {round}"
 
-    def print_sheets(self):
-        for side, one, other in ((0, "group", "station"), (1, "station", "group")):
-            for party in range((self.groups, self.stations)[side]):
-                print(f"{one} {party}\nround  {other:>7}")
-                for c in range(self.many):
-                    i = meeting_of(self.meetings, self.rounds, side, party, c)
-                    print(f"{c:>5}  {'free' if i is None else self.meetings[i][1 - side]:>7}")
-                print()
+    def report_lines(self):
+        yield f"rounds {self.many} looks {self.looks}"
+        yield from self.plan_lines()
+
+    def sheet_lines(self):
+        return sheet_lines(self.groups, self.stations, self.meetings, self.rounds, self.many)
+
+    def plan_bytes(self):
+        numbers = [self.many] + [NONE if round is None else round for round in self.rounds]
+        return b"".join(number.to_bytes(2, "little") for number in numbers)
+
+    def list_bytes(self):
+        head = bytes([self.groups, self.stations, self.rooms]) + len(self.meetings).to_bytes(2, "little")
+        return head + bytes(party for meeting in self.meetings for party in meeting)
 
 
-def changes_of(data, groups, stations):
-    """The changes that the bytes say, one by one: the kind, and the two bytes of what it names."""
-    at = 0
-    while at < len(data):
-        kind, at = data[at], at + 1
-        named = data[at:at + 2] if kind in (0, 1) else b""
-        if kind == 0:
-            for i, party in enumerate(named):
-                if party >= (groups, stations)[i]:
-                    raise Refused(4, at + i)
-        if kind in (0, 1) and len(named) < 2:
-            raise Refused(1, len(data))
-        yield kind, tuple(named)
-        at += len(named)
+def sheet_lines(groups, stations, meetings, rounds, many):
+    for side, one, other in ((0, "group", "station"), (1, "station", "group")):
+        for party in range((groups, stations)[side]):
+            yield f"{one} {party}"
+            yield f"round  {other:>7}"
+            for c in range(many):
+                i = meeting_of(meetings, rounds, side, party, c)
+                yield f"{c:>5}  {'free' if i is None else meetings[i][1 - side]:>7}"
+            yield ""
+
+
+def change_lines(day, row, looks_too=False):
+    """Makes the changes that the bytes say, and answers a line for each, once all are made."""
+    lines = []
+    for place, (kind, named) in enumerate(changes_of(row, day.groups, day.stations)):
+        looks, moved = day.change(kind, named, place)
+        lines.append(f"rounds {day.many} moved {moved}" + (f" looks {looks}" if looks_too else ""))
+    return lines
 
 
 def read(path):
@@ -162,30 +161,27 @@ def read(path):
         return file.read()
 
 
+def lines_of(options, paths):
+    looks_too = "--looks" in options
+    day = Day(read(paths[0]))
+    if "--sheets" in options:
+        return list(day.sheet_lines())
+    if not paths[1:]:
+        return list(day.report_lines())
+    lines = change_lines(day, read(paths[1]), looks_too)
+    return lines + list(day.plan_lines()) if looks_too else lines
+
+
 def main():
-    looks_too = "--looks" in sys.argv
-    day_path, *paths = [arg for arg in sys.argv[1:] if not arg.startswith("--")]
-    day = Day(read(day_path))
-    if "--sheets" in sys.argv:
-        day.print_sheets()
-        return
-    if not paths:
-        print(f"rounds {day.many} looks {day.looks}")
-        day.print_plan()
-        return
-    told = []
+    options = [arg for arg in sys.argv[1:] if arg.startswith("--")]
+    paths = [arg for arg in sys.argv[1:] if not arg.startswith("--")]
     try:
-        for place, (kind, named) in enumerate(changes_of(read(paths[0]), day.groups, day.stations)):
-            looks, moved = day.change(kind, named, place)
-            told.append(f"rounds {day.many} moved {moved}" + (f" looks {looks}" if looks_too else ""))
+        for line in lines_of(options, paths):
+            print(line)
     except Refused as refused:
-        number, place = refused.args
-        print(f"refused {number} at {place}")
+        print(refused)
         sys.exit(1)
-    for line in told:
-        print(line)
-    if looks_too:
-        day.print_plan()
 
 
-main()
+if __name__ == "__main__":
+    main()

@@ -6,9 +6,9 @@ use Rattle.meetings.specs.declared.numbers.Meeting.{Meeting}
 use Rattle.meetings.specs.declared.numbers.Side.{Side}
 use Rattle.meetings.specs.declared.numbers.Side.TheVariants.{Groups, Stations}
 use Rattle.meetings.specs.Lists.{Exist, parties}
-use Rattle.fewest.specs.Counting.{total, count, one_if}
+use Rattle.fewest.specs.Counting.{total, count}
 use Rattle.fewest.specs.Plans.{none, in_round}
-use Rattle.fewest.proofs.Counting.{total_ext, total_at_most, count_one, by_rounds}
+use Rattle.fewest.proofs.Counting.{total_ext, count_at_most, count_one, by_rounds}
 use Rattle.fewest.proofs.NoFewer.{in_all_rounds}
 use Rattle.chains.specs.declared.shapes.Shape.{Shape}
 use Rattle.chains.specs.Rows.{WithinRows}
@@ -108,9 +108,4 @@ pub sizes_together : (r : ℕ) (ms : List Meeting) (xs : List ℕ) → Partial r
 sizes_together r ms xs plan =
     let each = total_ext (size xs) (λ c. count (λ i. eqb (round_of xs i) c) (length ms)) r (λ c h. count_round r ms xs c plan) in
     let by = by_rounds (λ i. true) (round_of xs) (length ms) r in
-    let most = total_at_most (λ i. one_if (ltb (round_of xs i) r)) 1 (length ms) (λ i h. one_most (ltb (round_of xs i) r)) in
-    omega arith
-  where
-    one_most : (b : Bool) → one_if b ≤ 1
-    one_most true = omega arith
-    one_most false = omega arith
+    omega (arith, count_at_most (λ i. ltb (round_of xs i) r) (length ms))

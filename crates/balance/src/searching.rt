@@ -1,6 +1,6 @@
 // Searching for the fullest and the emptiest round. Each is searched from where it was found before, since while rounds are evened
 // out no size grows beyond the greatest, and none falls below the least.
-ghost use Rattle.std.specs.Prelude.{◌≡◌, ◌≤◌, MatchOption, length, nat_lt, slice_index};
+ghost use Rattle.std.specs.Prelude.{◌≤◌, MatchOption, length, nat_lt, slice_index};
 ghost use Rattle.fewest.specs.Plans.{none};
 ghost use Rattle.chains.specs.Partial.{Unless};
 ghost use Rattle.balance.specs.Searching.{FoundAt, NextOf, Searched, SearchedTo};

@@ -7,7 +7,7 @@ use Rattle.std.proofs.lemmas.Bool.{both_ways, cases_eq, or_cases, or_left, eqb-t
 use Rattle.std.proofs.lemmas.Bool.Decides.{nat_tests}
 use Rattle.fewest.specs.Counting.{count, one_if}
 use Rattle.fewest.specs.Plans.{none}
-use Rattle.fewest.proofs.Counting.{count_ext, count_none, total_at_most}
+use Rattle.fewest.proofs.Counting.{count_at_most, count_ext, count_none}
 use Rattle.chains.specs.Chains.{with_one, with_all, nothing, holds, left_of}
 use Rattle.chains.specs.Statements.{Once}
 
@@ -106,12 +106,6 @@ place_held (z ∷ zs) (suc q) d h = rest_held z zs (get_or zs q d) (place_held z
 pub front_held : (t : ℕ) (zs : List ℕ) (j : ℕ) → holds (take t zs) j ≡ true → holds zs j ≡ true
 front_held t zs j h = ap (λ l. holds l j) (sym (take-append-drop t zs)) ∙ ap (λ f. f j) (all_append nothing (take t zs) (drop t zs)) ∙ all_before (holds (take t zs)) (drop t zs) j h
 
--- and so is who is among the last
-pub back_held : (t : ℕ) (zs : List ℕ) (j : ℕ) → holds (drop t zs) j ≡ true → holds zs j ≡ true
-back_held zero zs j h = h
-back_held (suc t) [] j h = h
-back_held (suc t) (z ∷ zs) j h = rest_held z zs j (back_held t zs j h)
-
 pub place_of : (zs : List ℕ) (j : ℕ) → holds zs j ≡ true → (q : ℕ) × (q < length zs) × (get_or zs q none ≡ j)
 place_of [] j h = absurd (none_held j h)
 place_of (z ∷ zs) j h = ⊎_elim (λ e. (0, omega arith, sym e)) (λ l. let p = place_of zs j l in (suc p.0, omega arith, p.2)) (held_cases z zs j h)
@@ -197,13 +191,8 @@ count_members p is m once within = fresh_count p is m (fresh_from_once is once) 
 -- numbers below m, each once, are m at most
 pub once_short : (is : List ℕ) (m : ℕ) → Once is → ((j : ℕ) → holds is j ≡ true → j < m) → length is ≤ m
 once_short is m once within =
-    let each = total_at_most (λ j. one_if (holds is j && true)) 1 m (λ j h. one_most (holds is j && true)) in
-    omega (arith, all is, count_members (λ j. true) is m once within)
+    omega (arith, all is, count_members (λ j. true) is m once within, count_at_most (λ j. holds is j && true) m)
   where
     all : (zs : List ℕ) → count_by (λ j. true) zs ≡ length zs
     all [] = refl
     all (z ∷ zs) = omega (arith, sum_by-cons (λ (x : ℕ). 1) z zs, all zs)
-
-    one_most : (b : Bool) → one_if b ≤ 1
-    one_most true = omega arith
-    one_most false = omega arith

@@ -17,12 +17,12 @@ use Rattle.placing.specs.Steps.{all_named}
 use Rattle.changes.specs.declared.change.Change.{Change}
 use Rattle.changes.specs.declared.change.Change.TheVariants.{Add, Drop, GetRoom, GiveRoomUp}
 use Rattle.changes.specs.Days.{Day, Stands, has_round, moved, number_moved, numbered}
-use Rattle.changes.specs.Making.{after, noted, start_of}
+use Rattle.changes.specs.Making.{after, dropped, noted, start_of}
 use Rattle.changes.specs.Numbered.{Numbered, can, changed, rounds_for}
-use Rattle.changes.specs.OnBoard.{Noted, dropped}
+use Rattle.changes.specs.OnBoard.{Noted}
 use Rattle.changes.specs.Statements.{ChangeStands}
 use Rattle.changes.specs.Waiting.{is_there}
-use Rattle.changes.proofs.BeforeMaking.{some_has}
+use Rattle.changes.proofs.Standing.{has_round_if}
 use Rattle.changes.proofs.Leading.{named_below, unnamed_stays}
 use Rattle.changes.proofs.NextDay.{next_stands}
 use Rattle.changes.proofs.Noted.{Dropped, goes_or_stays, meetings_kept, new_has_none, round_taken}
@@ -81,7 +81,7 @@ module _ (d : Day) (c : Change) (stands : Stands d) (may : can (numbered d) c �
   away_none : (i : ℕ) → i < length ys → is_there v i ≡ false → round_of ys i ≡ none
   away_none i h away = ⊎_elim
       (λ e. e)
-      (λ some. absurd (both_ways _ away (ap (λ (w : Numbered). is_there w i) (sym next.list) ∙ get_or-map has_round ys i none false h ∙ some_has (round_of ys i) some)))
+      (λ some. absurd (both_ways _ away (ap (λ (w : Numbered). is_there w i) (sym next.list) ∙ get_or-map has_round ys i none false h ∙ has_round_if (round_of ys i) some)))
       (cases_eq (round_of ys i) none)
 
   -- who is named by no step has the round that was noted

@@ -15,19 +15,12 @@ use Rattle.chains.proofs.Members.{held_cases, none_held, once_from_fresh}
 use Rattle.changes.specs.declared.change.Change.{Change}
 use Rattle.changes.specs.declared.change.Change.TheVariants.{Add, Drop, GetRoom, GiveRoomUp}
 use Rattle.changes.specs.Days.{Day, has_round, numbered}
-use Rattle.changes.specs.Making.{noted, taken_out}
-use Rattle.changes.specs.MakingOn.{grown}
+use Rattle.changes.specs.Making.{dropped, grown, noted, taken_out}
 use Rattle.changes.specs.Numbered.{can, changed, list_after}
-use Rattle.changes.specs.OnBoard.{CanNote, dropped, newcomer}
+use Rattle.changes.specs.OnBoard.{CanNote, newcomer}
 use Rattle.changes.specs.Waiting.{is_there}
+use Rattle.changes.proofs.Standing.{round_has}
 use Rattle.changes.proofs.Noted.{goes_or_stays, new_has_none, round_taken, start_partial}
-
--- with the round of an added meeting and without that of a dropped one the rounds are those of the rule
-pub grown_dropped : (xs : List ℕ) (c : Change) → dropped (grown xs c) c ≡ noted xs c
-grown_dropped xs (Add m) = refl
-grown_dropped xs (Drop i) = refl
-grown_dropped xs GiveRoomUp = refl
-grown_dropped xs GetRoom = refl
 
 -- a meeting has one of q rounds or none still
 pub noted_round : (q : ℕ) (d : Contents) (xs : List ℕ) (c : Change) → Partial q d.meetings xs → (i : ℕ) → (round_of (noted xs c) i ≡ none) ⊎ (round_of (noted xs c) i < q)
@@ -52,12 +45,6 @@ drop_there d i there = ⊎_elim
     (λ h. (h, sym (get_or-map has_round d.at i none false h) ∙ there))
     (λ past. absurd (both_ways _ (get_or_past (map has_round d.at) i false (omega (arith, length-map d.at has_round))) there))
     (cases_lt i (length d.at))
-
-pub has_some : (x : ℕ) → has_round x ≡ true → x ≡ none → ⊥
-has_some x has out = grind (arith, nat_tests)
-
-pub some_has : (x : ℕ) → (x ≡ none → ⊥) → has_round x ≡ true
-some_has x some = grind (arith, nat_tests)
 
 -- a change can be noted
 pub noting : (d : Day) (c : Change) (e : Board) (r s : ℕ) → can (numbered d) c ≡ true → Partial r d.list.meetings d.at → meetings_on e ≡ (list_after d.list c).meetings → rounds_on e ≡ grown d.at c → r ≤ s → CanNote e s c

@@ -10,12 +10,13 @@ use Rattle.chains.specs.Partial.{Partial, round_of}
 use Rattle.changes.specs.declared.change.Change.{Change}
 use Rattle.chains.specs.Rows.{ManyWithin}
 use Rattle.changes.specs.Days.{Day, numbered, rounds_of}
-use Rattle.changes.specs.Making.{noted, start_of, taken_out, waiting}
+use Rattle.changes.specs.Making.{dropped, noted, start_of, taken_out, waiting}
 use Rattle.changes.specs.MakingOn.{BeforeChange}
 use Rattle.changes.specs.Numbered.{Numbered, changed, list_after, rounds_for}
-use Rattle.changes.specs.OnBoard.{AreOut, CanNote, CanPut, TakesRest, dropped, goes, newcomer}
+use Rattle.changes.specs.OnBoard.{AreOut, CanNote, CanPut, TakesRest, goes, newcomer}
 use Rattle.changes.specs.Waiting.{Spared, WhilePutting, is_there}
-use Rattle.changes.proofs.BeforeMaking.{grown_dropped, has_some, new_is, newcomer_is, newcomer_once, noted_partial, noted_round, noting, some_has}
+use Rattle.changes.proofs.Standing.{has_round_if, round_has}
+use Rattle.changes.proofs.BeforeMaking.{new_is, newcomer_is, newcomer_once, noted_partial, noted_round, noting}
 use Rattle.changes.proofs.NextDay as next
 use Rattle.changes.proofs.Noted.{goes_or_stays, new_has_none, round_taken}
 use Rattle.changes.proofs.OneChange.{change_waits}
@@ -40,7 +41,7 @@ module _ (d : Day) (c : Change) (e : Board) (from to : ℕ) (b : BeforeChange d 
 
   -- what is left is a partial plan
   pub start_is : dropped (rounds_on e) c ≡ noted d.at c
-  start_is = ap (λ xs. dropped xs c) b.rounds ∙ grown_dropped d.at c
+  start_is = ap (λ xs. dropped xs c) b.rounds
 
   pub plan_now : Partial from (meetings_on e) (dropped (rounds_on e) c)
   plan_now = subst (λ ms. Partial from ms (dropped (rounds_on e) c)) (sym b.meetings) (subst (Partial from (list_after d.list c).meetings) (sym start_is) (subst (λ q. Partial q (list_after d.list c).meetings (noted d.at c)) (sym b.now) (noted_partial (rounds_of d) d.list d.at c (omega (arith, few_now, b.now)) b.stands.partial)))
@@ -89,7 +90,7 @@ module _ (d : Day) (c : Change) (e : Board) (from to : ℕ) (b : BeforeChange d 
 
         there : is_there v i ≡ true
         there = ⊎_elim
-            (λ old. ⊎_elim (λ went. absurd (omega (arith, went.no_round, at, parts.2, few_now))) (λ stays. stays.there ∙ some_has (round_of d.at i) (λ out. omega (arith, stays.same, at, parts.2, few_now))) (goes_or_stays d.at c i old))
+            (λ old. ⊎_elim (λ went. absurd (omega (arith, went.no_round, at, parts.2, few_now))) (λ stays. stays.there ∙ has_round_if (round_of d.at i) (λ out. omega (arith, stays.same, at, parts.2, few_now))) (goes_or_stays d.at c i old))
             (λ new. absurd (omega (arith, new_has_none d.at c i new, at, parts.2, few_now)))
             (cases_lt i (length d.at))
 
@@ -126,7 +127,7 @@ module _ (d : Day) (c : Change) (e : Board) (from to : ℕ) (b : BeforeChange d 
         old : i < length d.at → (holds (newcomer (length (meetings_on e)) c) i || goes e1 to from i) ≡ true
         old h = ⊎_elim
             (λ goer. absurd (both_ways _ goer.away there))
-            (λ stays. or_right _ _ (went (λ o. has_some (round_of d.at i) (sym stays.there ∙ there) (sym stays.same ∙ o))))
+            (λ stays. or_right _ _ (went (λ o. round_has (round_of d.at i) (sym stays.there ∙ there) (sym stays.same ∙ o))))
             (goes_or_stays d.at c i h)
 
     -- THOSE THAT WAIT are those of the rule

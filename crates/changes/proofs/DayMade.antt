@@ -24,11 +24,11 @@ use Rattle.changes.proofs.RowAccepted.{only_what_can, tested_as_made}
 use Rattle.changes.proofs.RowParts.{meetings_below}
 
 -- the parties stay
-groups_all : (v : Numbered) (cs : List Change) → (made_all v cs).list.groups ≡ v.list.groups
+pub groups_all : (v : Numbered) (cs : List Change) → (made_all v cs).list.groups ≡ v.list.groups
 groups_all v [] = refl
 groups_all v (c ∷ cs) = groups_all (changed v c) cs ∙ groups_kept v.list c
 
-stations_all : (v : Numbered) (cs : List Change) → (made_all v cs).list.stations ≡ v.list.stations
+pub stations_all : (v : Numbered) (cs : List Change) → (made_all v cs).list.stations ≡ v.list.stations
 stations_all v [] = refl
 stations_all v (c ∷ cs) = stations_all (changed v c) cs ∙ stations_kept v.list c
 

@@ -80,10 +80,3 @@ lent_enough d cs lr lg ls proper er eg es =
   where
     wide : (n r long : ℕ) → 1 ≤ n → r ≤ most_meetings → n * most_meetings ≤ long → r ≤ width n long
     wide n r long some most enough = wide_enough n r long some (omega arith) (omega (arith, mul-le-mul_left n most))
-
--- nor are they for a row that was read, each change of which can be made
-pub read_enough : (d : Contents) (bs : List ℕ) (long_rounds long_groups long_stations : ℕ) → AllBytes bs → Proper d → most_meetings ≤ long_rounds → d.groups * most_meetings ≤ long_groups → d.stations * most_meetings ≤ long_stations → then (read_row (whole d) bs) (λ cs. answer_of d cs long_rounds long_groups long_stations) ≡ then (read_row (whole d) bs) (λ cs. accepted (told (first_day d) cs))
-read_enough d bs lr lg ls byte proper er eg es =
-    then_same (read_row (whole d) bs) _ _ (λ cs is.
-    let made = tested_as_made (whole d) cs 0 [] (read_then_written (whole d) bs cs byte is).0 in
-    lent_enough d cs lr lg ls proper er eg es ∙ ap (λ o. then o (λ t. accepted (told (first_day d) cs))) made)

@@ -17,8 +17,8 @@ use Rattle.placing.specs.Putting.{Placed, placed}
 use Rattle.placing.specs.Steps.{Step, all_named}
 use Rattle.balance.specs.Evening.{even_out, even_steps}
 use Rattle.balance.proofs.WholePlan.{even_out_looks}
-use Rattle.changes.specs.Making.{put_each, put_each_steps}
-use Rattle.changes.specs.OnBoard.{CanPut, Touches, steps_again}
+use Rattle.changes.specs.Making.{put_each, put_each_steps, steps_putting}
+use Rattle.changes.specs.OnBoard.{CanPut, Touches}
 use Rattle.changes.proofs.Named.{named_append}
 use Rattle.changes.proofs.PuttingEach.{waiting_puts}
 use Rattle.changes.proofs.PuttingTurns.{few_wait}
@@ -63,7 +63,7 @@ module _ (d e : Board) (r l : ℕ) (is : List ℕ) (can : CanPut d r is) (puts :
     looks = ap (λ n. n + l') puts.looks ∙ ap (λ n. p.looks + n) (evens.looks ∙ ap (λ (q : Placed). q.looks) evened_is) ∙ ap (λ (q : Placed). q.looks) (sym (even_out_looks r ms p));
   }
 
-  pub both_touch : (u v w : Found) → Touches u v (put_each_steps r ms is (rounds_on d)) → Touches v w (even_steps r (meetings_on e) (placed (rounds_on e) 0)) → Touches u w (steps_again r ms is (rounds_on d))
+  pub both_touch : (u v w : Found) → Touches u v (put_each_steps r ms is (rounds_on d)) → Touches v w (even_steps r (meetings_on e) (placed (rounds_on e) 0)) → Touches u w (steps_putting r ms is (rounds_on d))
   both_touch u v w one two =
       touches_then u v w (put_each_steps r ms is (rounds_on d)) (even_steps r ms (placed p.rounds 0)) one
       (subst (λ ts. Touches v w ts) (ap (λ ms. even_steps r ms (placed (rounds_on e) 0)) puts.board.meetings ∙ ap (λ xs. even_steps r ms (placed xs 0)) puts.board.rounds) two)

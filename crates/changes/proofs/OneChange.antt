@@ -19,6 +19,7 @@ use Rattle.changes.specs.Numbered.{Numbered, can, changed, rounds_for}
 use Rattle.changes.specs.Statements.{ChangeStands, PutsAnew}
 use Rattle.changes.proofs.Again.{MadeAgain, again_is}
 use Rattle.changes.proofs.Leading.{again_leads, puts_named, unnamed_stays}
+use Rattle.changes.proofs.Standing.{has_round_if}
 use Rattle.changes.proofs.Noted.{Dropped, Stays, goes_or_stays, has_still, meetings_kept, round_taken, start_partial, there_long}
 use Rattle.changes.proofs.ProperAfter.{groups_kept, proper_after, stations_kept}
 use Rattle.changes.proofs.PutAnew.{anew_each, anew_even, anew_then, waits_anew}
@@ -72,7 +73,7 @@ module _ (d : Day) (c : Change) (stands : Stands d) (may : can (numbered d) c �
       let now = cond-false (ltb (round_of d.at i) r) (round_of d.at i) none (le-ltb _ _ past) in
       ⊎_elim
       (λ had_none. absurd (differs (kept ∙ now ∙ sym had_none)))
-      (λ had. change_waits.all i (omega (arith, stands.partial.each, meetings_kept d.list c)) (stays.there ∙ some (round_of d.at i) had) (left ∙ now))
+      (λ had. change_waits.all i (omega (arith, stands.partial.each, meetings_kept d.list c)) (stays.there ∙ has_round_if (round_of d.at i) had) (left ∙ now))
       (cases_eq (round_of d.at i) none))
       (cases_lt (round_of d.at i) r)
     where
@@ -81,9 +82,6 @@ module _ (d : Day) (c : Change) (stands : Stands d) (may : can (numbered d) c �
 
       kept : round_of (made_again r v xs).rounds i ≡ cond (ltb (round_of d.at i) r) (round_of d.at i) none
       kept = unnamed_stays r v.list.meetings (again_steps r v xs) xs (made_again r v xs).rounds i change_leads out ∙ left
-
-      some : (x : ℕ) → (x ≡ none → ⊥) → has_round x ≡ true
-      some x had = grind (arith, nat_tests)
 
   -- who has another round than before was dropped, or is named by a step
   pub change_others : (i : ℕ) → i < length d.at → (round_of (made_again r v xs).rounds i ≡ round_of d.at i → ⊥) → Dropped c i ⊎ (holds (all_named (again_steps r v xs)) i ≡ true)

@@ -17,10 +17,10 @@ use Rattle.balance.specs.Evening.{even_out}
 use Rattle.balance.specs.OnBoard.{RoomForTwo}
 use Rattle.changes.specs.declared.change.Change.{Change}
 use Rattle.changes.specs.Days.{Day, moved, number_moved, numbered, rounds_of}
-use Rattle.changes.specs.Making.{after, again_steps, made_again, noted, put_each, start_of, waiting}
-use Rattle.changes.specs.MakingOn.{AfterChange, BeforeChange, grown}
+use Rattle.changes.specs.Making.{after, again_steps, grown, made_again, noted, put_each, start_of, steps_putting, waiting}
+use Rattle.changes.specs.MakingOn.{AfterChange, BeforeChange}
 use Rattle.changes.specs.Numbered.{Numbered, can, changed, rounds_for}
-use Rattle.changes.specs.OnBoard.{Noted, Notes, TakesRest, Touches, newcomer, steps_again}
+use Rattle.changes.specs.OnBoard.{Noted, Notes, TakesRest, Touches, newcomer}
 use Rattle.changes.specs.Told.{told_of}
 use Rattle.changes.proofs.AfterMaking.{dropped_agree, moved_counted, noted_then, touched_below, touched_once}
 use Rattle.changes.proofs.BeforeMaking.{drop_there}
@@ -42,7 +42,7 @@ dropped_here d c may j drop = omega (arith, (drop_there d drop.0.0 (subst (λ c.
 grown_long : (xs : List ℕ) (c : Change) (j : ℕ) → Dropped c j → j < length xs → j < length (grown xs c)
 grown_long xs c j drop h = subst (λ c. j < length (grown xs c)) (sym drop.1) h
 
-module _ (d : Day) (c : Change) (e e1 e2 f : Board) (from to : ℕ) (b : BeforeChange d c (meetings_on e) e.shape (rounds_on e) from to) (ns ns1 ns1' ns2 bs bs1 ws js : List ℕ) (notes : Notes e e1 c ns ns1 bs bs1 ws) (rest : TakesRest e1 e2 from to ns1' ns2 ws js) (looks : ℕ) (tv tw : Found) (again : PutOn e2 f (even_out to (meetings_on e2) (put_each to (meetings_on e2) js (placed (rounds_on e2) 0))) looks) (touches : Touches tv tw (steps_again to (meetings_on e2) js (rounds_on e2))) (empty : found_in tv ≡ []) where
+module _ (d : Day) (c : Change) (e e1 e2 f : Board) (from to : ℕ) (b : BeforeChange d c (meetings_on e) e.shape (rounds_on e) from to) (ns ns1 ns1' ns2 bs bs1 ws js : List ℕ) (notes : Notes e e1 c ns ns1 bs bs1 ws) (rest : TakesRest e1 e2 from to ns1' ns2 ws js) (looks : ℕ) (tv tw : Found) (again : PutOn e2 f (even_out to (meetings_on e2) (put_each to (meetings_on e2) js (placed (rounds_on e2) 0))) looks) (touches : Touches tv tw (steps_putting to (meetings_on e2) js (rounds_on e2))) (empty : found_in tv ≡ []) where
   abbrev v : Numbered
   v = changed (numbered d) c
 
@@ -68,12 +68,12 @@ module _ (d : Day) (c : Change) (e e1 e2 f : Board) (from to : ℕ) (b : BeforeC
       ∙ ap (λ is. out_of (rounds_for v) v.list.meetings is (rounds_on e2)) waits
       ∙ ap (out_of (rounds_for v) v.list.meetings (waiting v.there (start_of d c))) same_start
 
-  steps_are : steps_again to (meetings_on e2) js (rounds_on e2) ≡ again_steps (rounds_for v) v (start_of d c)
+  steps_are : steps_putting to (meetings_on e2) js (rounds_on e2) ≡ again_steps (rounds_for v) v (start_of d c)
   steps_are =
-      ap (λ r. steps_again r (meetings_on e2) js (rounds_on e2)) b.then
-      ∙ ap (λ ms. steps_again (rounds_for v) ms js (rounds_on e2)) same_meetings
-      ∙ ap (λ is. steps_again (rounds_for v) v.list.meetings is (rounds_on e2)) waits
-      ∙ ap (steps_again (rounds_for v) v.list.meetings (waiting v.there (start_of d c))) same_start
+      ap (λ r. steps_putting r (meetings_on e2) js (rounds_on e2)) b.then
+      ∙ ap (λ ms. steps_putting (rounds_for v) ms js (rounds_on e2)) same_meetings
+      ∙ ap (λ is. steps_putting (rounds_for v) v.list.meetings is (rounds_on e2)) waits
+      ∙ ap (steps_putting (rounds_for v) v.list.meetings (waiting v.there (start_of d c))) same_start
 
   rounds_then : rounds_on f ≡ (after d c).day.at
   unfolding after
@@ -85,7 +85,7 @@ module _ (d : Day) (c : Change) (e e1 e2 f : Board) (from to : ℕ) (b : BeforeC
 
   pub touched_is : found_in tw ≡ with_new [] (all_named (after d c).steps)
   unfolding after
-  touched_is = touches.list ∙ ap (λ l. with_new l (all_named (steps_again to (meetings_on e2) js (rounds_on e2)))) empty ∙ ap (λ ts. with_new [] (all_named ts)) steps_are
+  touched_is = touches.list ∙ ap (λ l. with_new l (all_named (steps_putting to (meetings_on e2) js (rounds_on e2)))) empty ∙ ap (λ ts. with_new [] (all_named ts)) steps_are
 
   pub touched_here : (i : ℕ) → holds (found_in tw) i ≡ true → i < length (meetings_on f)
   touched_here i h = omega (arith, touched_below d c b.stands b.may _ (λ i. refl) (found_in tw) touched_is i h, ap length again.board.meetings, ap length same_meetings)

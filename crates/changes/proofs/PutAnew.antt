@@ -19,6 +19,7 @@ use Rattle.changes.specs.Days.{Day, has_round}
 use Rattle.changes.specs.Making.{noted, put_each_steps, taken_out}
 use Rattle.changes.specs.Numbered.{there_after}
 use Rattle.changes.specs.Statements.{Anew, PutsAnew}
+use Rattle.changes.proofs.Standing.{round_has}
 use Rattle.changes.proofs.Noted.{goes_or_stays, round_taken}
 
 module _ (d : Day) (c : Change) (r : ℕ) where
@@ -61,10 +62,7 @@ module _ (d : Day) (c : Change) (r : ℕ) where
       (cases_lt i (length d.at))
     where
       no_more : (x : ℕ) → has_round x ≡ true → cond (ltb x r) x none ≡ none → (r ≤ x) × (x ≡ none → ⊥)
-      no_more x some e = (past x some e, real x some)
+      no_more x some e = (past x some e, round_has x some)
         where
           past : (x : ℕ) → has_round x ≡ true → cond (ltb x r) x none ≡ none → r ≤ x
           past x some e = grind (arith, nat_tests)
-
-          real : (x : ℕ) → has_round x ≡ true → x ≡ none → ⊥
-          real x some e = grind (arith, nat_tests)

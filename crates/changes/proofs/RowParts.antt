@@ -8,7 +8,7 @@ use Rattle.meetings.specs.Lists.{Contents}
 use Rattle.fewest.specs.Plans.{none}
 use Rattle.changes.specs.declared.change.Change.{Change}
 use Rattle.changes.specs.declared.change.Change.TheVariants.{Add, Drop, GetRoom, GiveRoomUp}
-use Rattle.changes.specs.MakingOn.{grown}
+use Rattle.changes.specs.Making.{grown}
 use Rattle.changes.specs.Numbered.{Numbered, changed, list_after}
 use Rattle.changes.specs.Rows.{made_all}
 

@@ -9,7 +9,6 @@ use Rattle.changes.specs.Bytes.{bytes_of_change, bytes_of_changes, changes_at, n
 use Rattle.changes.specs.Numbered.{Numbered, can, changed, rounds_for, tested}
 use Rattle.changes.specs.Rows.{CanAll, FirstThatCannot, ReadAsFirst, RefusedAsFirst, made_all}
 use Rattle.changes.proofs.RowAccepted.{change_accepted, never, next_accepted}
-use Rattle.changes.proofs.RowWritten.{wide}
 
 -- a change that cannot be made, behind one that can
 first_after : (v : Numbered) (c : Change) (cs : List Change) (p : ℕ) → can v c ≡ true → FirstThatCannot (changed v c) cs p → FirstThatCannot v (c ∷ cs) (p + 1)
@@ -61,7 +60,7 @@ stopped_here v bs at z number place here e =
 
 stopped_later : (v : Numbered) (bs : List ℕ) (at z number place : ℕ) (c : Change) → can v c ≡ true → drop at bs ≡ bytes_of_change c ++ drop (at + width_of c) bs → Stopped (changed v c) bs (at + width_of c) (z + 1) number place → Stopped v bs at z number place
 stopped_later v bs at z number place c may stood later =
-    let far : at + length (bytes_of_changes (c ∷ later.more)) ≡ at + width_of c + length (bytes_of_changes later.more) = omega (arith, length-append (bytes_of_change c) (bytes_of_changes later.more), wide c) in
+    let far : at + length (bytes_of_changes (c ∷ later.more)) ≡ at + width_of c + length (bytes_of_changes later.more) = omega (arith, length-append (bytes_of_change c) (bytes_of_changes later.more)) in
     let nth : z + length (c ∷ later.more) ≡ z + 1 + length later.more = omega arith in
     record {
       more = c ∷ later.more;

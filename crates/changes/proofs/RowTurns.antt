@@ -20,8 +20,8 @@ use Rattle.changes.specs.declared.changed.Changed.{Changed}
 use Rattle.changes.specs.declared.kept.Kept.{Kept}
 use Rattle.changes.specs.Days.{Day, Stands, numbered}
 use Rattle.changes.specs.Keeping.{Beside}
-use Rattle.changes.specs.Making.{after}
-use Rattle.changes.specs.MakingOn.{AfterChange, BeforeChange, grown}
+use Rattle.changes.specs.Making.{after, grown}
+use Rattle.changes.specs.MakingOn.{AfterChange, BeforeChange}
 use Rattle.changes.specs.Numbered.{Numbered, can, changed, list_after, rounds_for}
 use Rattle.changes.specs.RowOn.{CanMakeRow, added}
 use Rattle.changes.specs.Rows.{CanAll, made_all, rounds_after}

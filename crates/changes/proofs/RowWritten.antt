@@ -67,12 +67,6 @@ module _ (bs : List ℕ) (at : ℕ) where
   change_written v z GiveRoomUp tail e may = rw (at_first 2 tail e).1 refl
   change_written v z GetRoom tail e may = rw (at_first 3 tail e).1 refl
 
-pub wide : (c : Change) → length (bytes_of_change c) ≡ width_of c
-wide (Add m) = refl
-wide (Drop i) = refl
-wide GiveRoomUp = refl
-wide GetRoom = refl
-
 -- a change has a byte at least
 some : (c : Change) → 1 ≤ length (bytes_of_change c)
 some (Add m) = omega arith
@@ -94,7 +88,7 @@ changes_written (c ∷ rest) v bs (suc left) at came here enough e may =
     let long = sym (length-drop at bs) ∙ ap length e ∙ length-append (bytes_of_change c) (bytes_of_changes rest) in
     let change = change_written bs at v (length came) c (bytes_of_changes rest) e may.0 in
     let next : next_at v bs at (length came) ≡ accepted c = rw (change, may.0) refl in
-    let more = changes_written rest (changed v c) bs left (at + width_of c) (came ++ c ∷ []) (omega (arith, wide c)) (omega arith) (rw (← wide c) (behind bs at (bytes_of_change c) (bytes_of_changes rest) e)) may.1 in
+    let more = changes_written rest (changed v c) bs left (at + width_of c) (came ++ c ∷ []) (omega arith) (omega arith) (behind bs at (bytes_of_change c) (bytes_of_changes rest) e) may.1 in
     one_less v bs at came (suc left) left refl (omega (arith, some c)) ∙ (rw next (more ∙ ap accepted (append_assoc came (c ∷ []) rest)))
 
 pub written_then_read : WrittenThenRead

@@ -7,7 +7,7 @@ use Rattle.std.proofs.lemmas.Bool.{both_ways, cases_lt, eq-eqb, le-ltb, ne_eqb}
 use Rattle.meetings.specs.Lists.{Proper, nobody, party}
 use Rattle.fewest.specs.Counting.{total, count, one_if}
 use Rattle.fewest.specs.Plans.{none, Plan}
-use Rattle.fewest.proofs.Counting.{by_rounds, total_ext, total_le}
+use Rattle.fewest.proofs.Counting.{by_rounds, one_most, total_ext, total_le}
 use Rattle.fewest.proofs.NoFewer.{fewest_suffices, no_fewer_said}
 use Rattle.chains.specs.Partial.{Partial, round_of}
 use Rattle.balance.specs.Sizes.{size}
@@ -22,12 +22,11 @@ use Rattle.changes.proofs.Left.{left_proper, place, place_once, rounds_few, thos
 pub round_has : (x : ℕ) → has_round x ≡ true → x ≡ none → ⊥
 round_has x h e = both_ways (has_round x) (ap not (eq-eqb x none e)) h
 
-pub has_round_below : (x r : ℕ) → r ≤ none → x < r → has_round x ≡ true
-has_round_below x r le h = ap not (ne_eqb x none (λ e. omega arith))
+pub has_round_if : (x : ℕ) → (x ≡ none → ⊥) → has_round x ≡ true
+has_round_if x some = ap not (ne_eqb x none some)
 
-one_most : (b : Bool) → one_if b ≤ 1
-one_most true = omega arith
-one_most false = omega arith
+pub has_round_below : (x r : ℕ) → r ≤ none → x < r → has_round x ≡ true
+has_round_below x r le h = has_round_if x (λ e. omega arith)
 
 -- there is a mark for each meeting that has a round
 pub marked_long : (d : Day) → length d.at ≡ length d.list.meetings → length (numbered d).there ≡ length d.list.meetings

@@ -29,12 +29,12 @@ abbrev pub next_at : Numbered → List ℕ → ℕ → ℕ → Outcome Change
 next_at v bs at z =
     then (change_at bs at v.list.groups v.list.stations z) (λ c. cond (can v c) (accepted c) (refused 6 z))
 
--- by how many bytes a change is written
+-- how a change is written, and by how many bytes
+abbrev pub bytes_of_change : Change → List ℕ
+bytes_of_change c = number_of c ∷ values_of c
+
 abbrev pub width_of : Change → ℕ
-width_of (Add m) = 3
-width_of (Drop i) = 3
-width_of GiveRoomUp = 1
-width_of GetRoom = 1
+width_of c = length (bytes_of_change c)
 
 -- the changes up to the end of the bytes, so many at most, behind those that came before
 abbrev pub changes_at : Numbered → List ℕ → ℕ → ℕ → List Change → Outcome (List Change)
@@ -47,10 +47,7 @@ changes_at v bs (suc left) at came =
 abbrev pub read_row : Numbered → List ℕ → Outcome (List Change)
 read_row v bs = changes_at v bs (length bs) 0 []
 
--- how a change is written
-abbrev pub bytes_of_change : Change → List ℕ
-bytes_of_change c = number_of c ∷ values_of c
-
+-- how a row is written
 abbrev pub bytes_of_changes : List Change → List ℕ
 bytes_of_changes [] = []
 bytes_of_changes (c ∷ cs) = bytes_of_change c ++ bytes_of_changes cs

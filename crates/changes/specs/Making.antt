@@ -12,12 +12,23 @@ use Rattle.changes.specs.declared.change.Change.TheVariants.{Add, Drop, GetRoom,
 use Rattle.changes.specs.Numbered.{Numbered, changed, rounds_for}
 use Rattle.changes.specs.Days.{Day, numbered}
 
+-- the rounds with that of an added meeting, which has none yet
+abbrev pub grown : List ℕ → Change → List ℕ
+grown xs (Add m) = xs ++ none ∷ []
+grown xs (Drop i) = xs
+grown xs GiveRoomUp = xs
+grown xs GetRoom = xs
+
+-- and without that of a dropped one
+abbrev pub dropped : List ℕ → Change → List ℕ
+dropped xs (Add m) = xs
+dropped xs (Drop i) = slice_set xs i.0 none
+dropped xs GiveRoomUp = xs
+dropped xs GetRoom = xs
+
 -- an added meeting has no round yet, a dropped one has none any more
 abbrev pub noted : List ℕ → Change → List ℕ
-noted xs (Add m) = xs ++ none ∷ []
-noted xs (Drop i) = slice_set xs i.0 none
-noted xs GiveRoomUp = xs
-noted xs GetRoom = xs
+noted xs c = dropped (grown xs c) c
 
 -- meetings whose round is no more, where there are r, go out
 abbrev pub taken_out : ℕ → List ℕ → List ℕ
@@ -49,9 +60,12 @@ put_waiting r v xs = put_each r v.list.meetings (waiting v.there xs) (placed xs 
 abbrev pub made_again : ℕ → Numbered → List ℕ → Placed
 made_again r v xs = even_out r v.list.meetings (put_waiting r v xs)
 
--- and these are the steps
+-- the steps of both, where these wait
+abbrev pub steps_putting : ℕ → List Meeting → List ℕ → List ℕ → List Step
+steps_putting r ms is xs = put_each_steps r ms is xs ++ even_steps r ms (placed (put_each r ms is (placed xs 0)).rounds 0)
+
 abbrev pub again_steps : ℕ → Numbered → List ℕ → List Step
-again_steps r v xs = put_each_steps r v.list.meetings (waiting v.there xs) xs ++ even_steps r v.list.meetings (placed (put_waiting r v xs).rounds 0)
+again_steps r v xs = steps_putting r v.list.meetings (waiting v.there xs) xs
 
 -- what a change leaves: the next day, how many looks it took, and what was done
 pub record Made : Type 0 where

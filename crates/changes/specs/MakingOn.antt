@@ -1,23 +1,14 @@
 -- What is asked where a change is made on a board, and what is left. Assumes nothing.
-use Rattle.std.specs.Prelude.{◌≡◌, ℕ, true, List, [], ◌∷◌, ◌++◌}
+use Rattle.std.specs.Prelude.{◌≡◌, ℕ, true, List}
 use Rattle.meetings.specs.declared.numbers.Meeting.{Meeting}
-use Rattle.fewest.specs.Plans.{none}
 use Rattle.chains.specs.declared.shapes.Shape.{Shape}
 use Rattle.chains.specs.Rows.{ManyWithin}
 use Rattle.changes.specs.declared.change.Change.{Change}
-use Rattle.changes.specs.declared.change.Change.TheVariants.{Add, Drop, GetRoom, GiveRoomUp}
 use Rattle.changes.specs.declared.changed.Changed.{Changed}
 use Rattle.changes.specs.Days.{Day, Stands, numbered, rounds_of}
-use Rattle.changes.specs.Making.{after}
+use Rattle.changes.specs.Making.{after, grown}
 use Rattle.changes.specs.Numbered.{can, changed, list_after, rounds_for}
 use Rattle.changes.specs.Told.{told_of}
-
--- the rounds with that of an added meeting, which has none yet
-abbrev pub grown : List ℕ → Change → List ℕ
-grown xs (Add m) = xs ++ none ∷ []
-grown xs (Drop i) = xs
-grown xs GiveRoomUp = xs
-grown xs GetRoom = xs
 
 -- before a change of the day d, which stands: a board of this shape has the meetings ms, which are those that have a number after the
 -- change, in the rounds xs; there are so many rounds, and will be so many

@@ -1,14 +1,12 @@
 -- What is done on a board while a change is made. Assumes nothing.
 use Rattle.std.specs.List.Sorted.{IsNonDecreasing}
-use Rattle.std.specs.Prelude.{◌≡◌, ℕ, ◌-◌, ◌<◌, ◌≤◌, Bool, true, cond, ◌&&◌, ◌||◌, List, [], ◌∷◌, ◌++◌, length, ◌==◌, nat_le, nat_lt, slice_set, ⊤}
+use Rattle.std.specs.Prelude.{◌≡◌, ℕ, ◌-◌, ◌<◌, ◌≤◌, Bool, true, cond, ◌&&◌, ◌||◌, List, [], ◌∷◌, length, ◌==◌, nat_le, nat_lt, ⊤}
 use Rattle.meetings.specs.declared.numbers.Side.TheVariants.{Groups}
 use Rattle.meetings.specs.declared.numbers.Meeting.{Meeting}
 use Rattle.fewest.specs.Plans.{none}
 use Rattle.chains.specs.declared.found.Found.{Found}
 use Rattle.chains.specs.Finding.{Finds, found_in, with_new}
-use Rattle.placing.specs.Putting.{placed}
 use Rattle.placing.specs.Steps.{Step, all_named}
-use Rattle.balance.specs.Evening.{even_steps}
 use Rattle.chains.specs.declared.board.Board.{Board}
 use Rattle.chains.specs.Boards.{Becomes, meetings_on, rounds_on}
 use Rattle.chains.specs.Chains.{holds}
@@ -18,7 +16,7 @@ use Rattle.chains.specs.Statements.{Once}
 use Rattle.balance.specs.Sizes.{sizes_of}
 use Rattle.changes.specs.declared.change.Change.{Change}
 use Rattle.changes.specs.declared.change.Change.TheVariants.{Add, Drop, GetRoom, GiveRoomUp}
-use Rattle.changes.specs.Making.{put_each, put_each_steps, taken_out}
+use Rattle.changes.specs.Making.{dropped, taken_out}
 use Rattle.changes.specs.Numbered.{Numbered}
 use Rattle.changes.specs.Waiting.{Spared, WhilePutting}
 
@@ -62,13 +60,6 @@ newcomer m (Drop i) = []
 newcomer m GiveRoomUp = []
 newcomer m GetRoom = []
 
--- the rounds without that of a dropped meeting
-abbrev pub dropped : List ℕ → Change → List ℕ
-dropped xs (Add m) = xs
-dropped xs (Drop i) = slice_set xs i.0 none
-dropped xs GiveRoomUp = xs
-dropped xs GetRoom = xs
-
 -- on the board d a change can be noted, where there were r rounds: an added meeting is the last, and has no round yet; one that is
 -- dropped has one
 abbrev pub CanNote : Board → ℕ → Change → Type 0
@@ -97,7 +88,3 @@ pub record TakesRest (d e : Board) (from to : ℕ) (ns ns' is js : List ℕ) : T
 -- v becomes w, which has found also those that these steps name
 abbrev pub Touches : Found → Found → List Step → Type 0
 Touches v w ts = Finds v w (with_new (found_in v) (all_named ts))
-
--- the steps in which a plan is made again, where these wait
-abbrev pub steps_again : ℕ → List Meeting → List ℕ → List ℕ → List Step
-steps_again r ms is xs = put_each_steps r ms is xs ++ even_steps r ms (placed (put_each r ms is (placed xs 0)).rounds 0)

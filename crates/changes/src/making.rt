@@ -1,5 +1,5 @@
 // Making one change on a board.
-ghost use Rattle.std.specs.Prelude.{◌≡◌, ◌<◌, ◌≤◌, ◌*◌, length, slice_set, vec_capacity};
+ghost use Rattle.std.specs.Prelude.{◌≡◌, ◌<◌, ◌≤◌, length, slice_set, vec_capacity};
 ghost use Rattle.meetings.specs.declared.numbers.Side.TheVariants.{Groups};
 ghost use Rattle.fewest.specs.Plans.{none};
 ghost use Rattle.chains.specs.Boards.{Becomes, meetings_on, rounds_on};

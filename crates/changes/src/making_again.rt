@@ -2,17 +2,16 @@
 ghost use Rattle.std.specs.Prelude.{◌≡◌, ◌*◌, ◌≤◌, [], length, vec_capacity};
 ghost use Rattle.fewest.specs.Plans.{none};
 ghost use Rattle.chains.specs.Boards.{meetings_on, rounds_on};
-ghost use Rattle.chains.specs.Finding.{Finds, Unused, among_all, found_in, with_new};
+ghost use Rattle.chains.specs.Finding.{Finds, Unused, among_all};
 ghost use Rattle.chains.specs.Partial.{Partial};
 ghost use Rattle.chains.specs.Rows.{ManyWithin};
 ghost use Rattle.placing.specs.OnBoard.{PutOn};
 ghost use Rattle.placing.specs.Putting.{placed};
-ghost use Rattle.placing.specs.Steps.{all_named};
 ghost use Rattle.balance.specs.Evening.{even_out, even_steps};
 ghost use Rattle.balance.specs.OnBoard.{RoomForTwo};
 ghost use Rattle.balance.specs.Sizes.{sizes_of};
-ghost use Rattle.changes.specs.Making.{put_each};
-ghost use Rattle.changes.specs.OnBoard.{CanPut, Touches, steps_again};
+ghost use Rattle.changes.specs.Making.{put_each, steps_putting};
+ghost use Rattle.changes.specs.OnBoard.{CanPut, Touches};
 
 use crate::putting::put_in_each;
 use balance::even_out;
@@ -71,7 +70,7 @@ pub(crate) fn make_again(
     ensures rule { PutOn board.old board.new (even_out rounds (meetings_on board.old) (put_each rounds (meetings_on board.old) waiting.now (placed (rounds_on board.old) 0))) result }
     ensures counted { sizes.new ≡ sizes_of (length sizes.old) (rounds_on board.new) }
     ensures forgotten { Finds found.old found.new [] }
-    ensures touched { Touches touched.old touched.new (steps_again rounds (meetings_on board.old) waiting.now (rounds_on board.old)) }
+    ensures touched { Touches touched.old touched.new (steps_putting rounds (meetings_on board.old) waiting.now (rounds_on board.old)) }
     ensures room { vec_capacity ordered.new ≡ vec_capacity ordered.old }
 {
     let put = put_in_each(board, rounds, waiting, sizes, found, touched);

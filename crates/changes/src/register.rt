@@ -3,7 +3,7 @@ ghost use Rattle.std.specs.Prelude.{◌≡◌, true};
 ghost use Rattle.meetings.specs.Held.{contents};
 ghost use Rattle.meetings.specs.Refusals.{IfMemory};
 ghost use Rattle.changes.specs.declared.change.Change.TheVariants.{Add, Drop};
-ghost use Rattle.changes.specs.Numbered.{can, changed, rounds_for, whole};
+ghost use Rattle.changes.specs.Numbered.{can, rounds_for, whole};
 ghost use Rattle.changes.specs.Registered.{Becomes, Kept, registered};
 
 use crate::change::Change;

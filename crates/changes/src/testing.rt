@@ -1,5 +1,4 @@
 // Testing a row of changes before any is made.
-ghost use Rattle.std.specs.Prelude.{[]};
 ghost use Rattle.meetings.specs.Held.{contents};
 ghost use Rattle.meetings.specs.Refusals.{Answers};
 ghost use Rattle.changes.specs.Tested.{row_tested, tested_lists};

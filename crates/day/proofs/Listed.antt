@@ -12,6 +12,7 @@ use Rattle.changes.specs.declared.change.Change.TheVariants.{Add, Drop, GetRoom,
 use Rattle.changes.specs.Numbered.{Numbered, can, changed, whole}
 use Rattle.changes.specs.Rows.{CanAll, made_all}
 use Rattle.changes.proofs.DayLent.{last_list}
+use Rattle.changes.proofs.DayMade.{groups_all, stations_all}
 use Rattle.changes.proofs.LeftChanged.{can_add, long_changed, proper_changed}
 use Rattle.day.specs.Lists.{AllInBytes, InByte, all_added, given_up, got}
 use Rattle.day.specs.Reports.{last_of}
@@ -39,20 +40,6 @@ meetings_made v (Add m ∷ cs) =
 meetings_made v (Drop i ∷ cs) = meetings_made (changed v (Drop i)) cs
 meetings_made v (GiveRoomUp ∷ cs) = meetings_made (changed v GiveRoomUp) cs
 meetings_made v (GetRoom ∷ cs) = meetings_made (changed v GetRoom) cs
-
-groups_made : (v : Numbered) (cs : List Change) → (made_all v cs).list.groups ≡ v.list.groups
-groups_made v [] = refl
-groups_made v (Add m ∷ cs) = groups_made (changed v (Add m)) cs
-groups_made v (Drop i ∷ cs) = groups_made (changed v (Drop i)) cs
-groups_made v (GiveRoomUp ∷ cs) = groups_made (changed v GiveRoomUp) cs
-groups_made v (GetRoom ∷ cs) = groups_made (changed v GetRoom) cs
-
-stations_made : (v : Numbered) (cs : List Change) → (made_all v cs).list.stations ≡ v.list.stations
-stations_made v [] = refl
-stations_made v (Add m ∷ cs) = stations_made (changed v (Add m)) cs
-stations_made v (Drop i ∷ cs) = stations_made (changed v (Drop i)) cs
-stations_made v (GiveRoomUp ∷ cs) = stations_made (changed v GiveRoomUp) cs
-stations_made v (GetRoom ∷ cs) = stations_made (changed v GetRoom) cs
 
 -- who is added is one of 120 groups, with one of 120 stations
 in_byte : (v : Numbered) (c : Change) → Proper v.list → can v c ≡ true → InByte c
@@ -100,7 +87,7 @@ module _ (d : Contents) (cs : List Change) (proper : Proper d) (may : CanAll (wh
       meetings = sym (ap (λ (l : Contents). bytes_of_meetings l.meetings) (last_list d cs proper may) ∙ meetings_made (whole d) cs)
 
       groups : d.groups ≡ (last_of d cs).list.groups
-      groups = sym (ap (λ (l : Contents). l.groups) (last_list d cs proper may) ∙ groups_made (whole d) cs)
+      groups = sym (ap (λ (l : Contents). l.groups) (last_list d cs proper may) ∙ groups_all (whole d) cs)
 
       stations : d.stations ≡ (last_of d cs).list.stations
-      stations = sym (ap (λ (l : Contents). l.stations) (last_list d cs proper may) ∙ stations_made (whole d) cs)
+      stations = sym (ap (λ (l : Contents). l.stations) (last_list d cs proper may) ∙ stations_all (whole d) cs)

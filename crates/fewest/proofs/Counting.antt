@@ -38,6 +38,13 @@ total_at_most f most (suc n) h =
 pub count_ext : (p q : ℕ → Bool) (n : ℕ) → ((i : ℕ) → i < n → p i ≡ q i) → count p n ≡ count q n
 count_ext p q n h = total_ext (λ i. one_if (p i)) (λ i. one_if (q i)) n (λ i l. ap one_if (h i l))
 
+pub one_most : (b : Bool) → one_if b ≤ 1
+one_most true = omega arith
+one_most false = omega arith
+
+pub count_at_most : (p : ℕ → Bool) (n : ℕ) → count p n ≤ n
+count_at_most p n = let all = total_at_most (λ i. one_if (p i)) 1 n (λ i h. one_most (p i)) in omega arith
+
 -- among r rounds there is one that is x, if x is below r
 one_round : (p : Bool) (x r : ℕ) → total (λ c. one_if (p && eqb x c)) r ≡ one_if (p && ltb x r)
 one_round p x zero = grind (arith, nat_tests)

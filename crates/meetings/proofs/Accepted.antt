@@ -68,7 +68,7 @@ said_few said few = rw (said.whole, said.many) few
 pub said_exist : {bs : List ℕ} {n k left at : ℕ} {ms : List Meeting} → Said bs n k left at [] ms → Exist n k ms
 said_exist said = rw said.whole said.exist
 
-two_bytes : (bs : List ℕ) (at : ℕ) → at + 1 < length bs → drop at bs ≡ get_or bs at 0 ∷ get_or bs (at + 1) 0 ∷ drop (at + 2) bs
+pub two_bytes : (bs : List ℕ) (at : ℕ) → at + 1 < length bs → drop at bs ≡ get_or bs at 0 ∷ get_or bs (at + 1) 0 ∷ drop (at + 2) bs
 two_bytes bs at h =
     let next : at + 1 + 1 ≡ at + 2 = omega arith in
     drop_more bs at 0 (omega arith) ∙ ap (λ l. get_or bs at 0 ∷ l) (rw (← next) (drop_more bs (at + 1) 0 h))

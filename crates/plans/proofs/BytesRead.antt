@@ -2,6 +2,7 @@
 use Rattle.std.proofs.Common.{◌≡◌, ℕ, zero, suc, ◌+◌, ◌*◌, ◌/◌, ◌%◌, ◌<◌, false, cond, ltb, List, [], ◌∷◌, length, get_or, drop, sym, refl, ap, ◌∙◌, arith}
 use Rattle.std.proofs.lemmas.Bool.{cond-false, le-ltb, ltb-false}
 use Rattle.std.proofs.lemmas.List.{drop-drop, drop_all, drop_more, get_or-drop}
+use Rattle.meetings.proofs.Accepted.{two_bytes}
 use Rattle.meetings.specs.Refusals.{accepted, refused}
 use Rattle.meetings.specs.RoundTrips.{AllBytes}
 use Rattle.meetings.proofs.Outcomes.{unless_refused}
@@ -21,13 +22,6 @@ both x = omega arith
 pub long_numbers : (bs : List ℕ) (many at : ℕ) → length (numbers_at bs many at) ≡ many
 long_numbers bs zero at = refl
 long_numbers bs (suc many) at = ap suc (long_numbers bs many (at + 2))
-
--- two bytes and what follows them
-two_bytes : (bs : List ℕ) (at : ℕ) → at + 1 < length bs → drop at bs ≡ get_or bs at 0 ∷ get_or bs (at + 1) 0 ∷ drop (at + 2) bs
-two_bytes bs at h =
-    let two : at + 1 + 1 ≡ at + 2 = omega arith in
-    let second : drop (at + 1) bs ≡ get_or bs (at + 1) 0 ∷ drop (at + 2) bs = rw (← two) (drop_more bs (at + 1) 0 h) in
-    drop_more bs at 0 (omega arith) ∙ ap (λ l. get_or bs at 0 ∷ l) second
 
 module _ (bs : List ℕ) (byte : AllBytes bs) where
   -- numbers up to the end are written by the bytes that they were read from

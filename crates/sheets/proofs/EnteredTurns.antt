@@ -10,11 +10,6 @@ use Rattle.chains.specs.Partial.{party_of, round_of}
 use Rattle.plans.proofs.Entries.{all_alike, none_written, one_written}
 use Rattle.sheets.specs.Entered.{Entered, Has, Tells}
 
--- nobody is entered yet
-pub entered_none : (n k : ℕ) (ms : List Meeting) (xs : List ℕ) (s : Side) (w : ℕ) (es : List (Option ℕ)) → Exist n k ms → es ≡ replicate (parties s n k * w) None → Entered ms xs s w 0 es
-entered_none n k ms xs s w es exist clear =
-    all_alike None ms s w n k (λ p c o. Tells ms xs s p c 0 o) es exist clear (λ p c j h has. omega arith)
-
 module _ (ms : List Meeting) (xs : List ℕ) (s : Side) (i : ℕ) where
   -- an entry tells the same of one meeting more that is not there
   tells_on : (p c : ℕ) (o : Option ℕ) → (Has ms xs s p c i → ⊥) → Tells ms xs s p c i o → Tells ms xs s p c (i + 1) o
