@@ -2,9 +2,9 @@
 """Runs the built programs where memory is wanting, beside the answers that they give where it is not: memory.py.
 
 Each request for memory fails in turn, alone and with all after it (tests/failing.c, which cc makes), and the address space is limited
-to more and more. A run may then give the whole answer, with its files; or the refusal for want of memory; or, where a file could not be
-read for it, a sentence on standard error. In the last two the status is 1, and no file is there, or the old one as it was. Ends with
-the status 1 where a run does something else.
+to more and more. A run may then give the whole answer, with its files; or the refusal for want of memory, and then no file is there, or
+the old one as it was; or a sentence on standard error for the first file that could not be written for it, which is as it was. Ends
+with the status 1 where a run does something else.
 """
 import os
 import resource
@@ -19,18 +19,22 @@ from damaged import TOP, WRITTEN, wanted
 REFUSED = b"refused 11 at 0\n"
 # The small day has a chain, a part that is exchanged, and changes that put meetings in anew.
 SMALL = bytes.fromhex("0304020600010202000003010100010001"), bytes.fromhex("0002030201010003000003")
-MEGABYTE = 1 << 20
 
 
-def outcome(lines, files, old, want, got, found):
-    """What a run came to, none if it is nothing that it may come to."""
+def outcome(program, whole, before, got, found):
+    """What a run came to, none if it is nothing that it may come to. `whole` is the answer, with the files as they are written."""
     status, out, err = got
-    if (status, out, err) == (0, lines, b"") and found == files:
+    lines, files = whole
+    if (status, out, err, found) == (0, lines, b"", files):
         return "answered"
-    if status == 1 and found == old and out == REFUSED and err == b"":
+    if (status, out, err, found) == (1, REFUSED, b"", before):
         return "refused"
-    if status == 1 and found == old and out == b"" and err.startswith(want):
-        return "told"
+    # The files are written one after the other: those before the one that could not be are there.
+    for name in WRITTEN[program]:
+        wanted_error = f"{program}: cannot write {name}: out of memory. Name a file in a folder that can be written to.\n"
+        if (status, out, err, found) == (1, b"", wanted_error.encode(), before):
+            return f"{name} not written"
+        before = before | {name: files[name]}
     return None
 
 
@@ -46,18 +50,18 @@ class Trial:
         self.seen, self.wrong = Counter(), 0
 
     def run(self, name, old, limit=None, **environment):
-        outs = {out: self.folder / out for out in WRITTEN[self.program]}
+        outs = WRITTEN[self.program]
         before = {out: b"as it was" for out in outs} if old else {}
-        for out, path in outs.items():
-            path.unlink(missing_ok=True)
+        for out in outs:
+            (self.folder / out).unlink(missing_ok=True)
             if old:
-                path.write_bytes(before[out])
-        command = [TOP / "crates" / self.program / "out" / self.program, *self.paths, *outs.values()]
+                (self.folder / out).write_bytes(before[out])
+        command = [TOP / "crates" / self.program / "out" / self.program, *self.paths, *outs]
         set_limit = limit and (lambda: resource.setrlimit(resource.RLIMIT_AS, (limit, limit)))
-        done = subprocess.run(command, capture_output=True, timeout=20, env=os.environ | environment, preexec_fn=set_limit)
+        done = subprocess.run(command, capture_output=True, timeout=20, cwd=self.folder, env=os.environ | environment, preexec_fn=set_limit)
         got = done.returncode, done.stdout, done.stderr
         found = {path.name: path.read_bytes() for path in self.folder.iterdir() if not path.name.startswith(("given", "told"))}
-        came = outcome(self.lines, self.files, before, f"{self.program}: ".encode(), got, found)
+        came = outcome(self.program, (self.lines, self.files), before, got, found)
         if limit and came is None and (got[0] == 127 or got[0] < 0) and found == before and got[1] == b"":
             came = "not loaded"
         self.seen[came] += 1
@@ -81,9 +85,9 @@ class Trial:
         return many
 
     def limit_space(self):
-        """Answers the megabytes from which on the answer is given."""
-        for many in range(1, 400):
-            if self.run(f"{many} MB", many % 2 == 0, limit=many * MEGABYTE) == "answered":
+        """Limits the address space from the least that lets the program start to what suffices, and answers that in kilobytes."""
+        for many in range(1000, 40000, 20):
+            if self.run(f"{many} KB", many % 40 == 0, limit=many * 1024) == "answered":
                 return many
         return None
 
@@ -99,7 +103,7 @@ def main():
             for program, given in (("plan", [day]), ("day", [day, row]), ("checker", [day, plan]), ("sheet", [day, plan])):
                 trial = Trial(folder, program, given)
                 many, least = trial.fail_each(library), trial.limit_space()
-                print(f"{program}, {name}: {many} requests, answered from {least} MB on; {dict(trial.seen)}")
+                print(f"{program}, {name}: {many} requests, answered from {least} KB on; {dict(trial.seen)}")
                 wrong += trial.wrong
                 for path in Path(folder).iterdir():
                     path.unlink()

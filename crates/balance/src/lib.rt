@@ -14,7 +14,7 @@ mod theorems;
 pub use evening::even_out;
 pub use planned::Planned;
 pub use planning::{plan, plan_bytes};
-pub use sizes::{count_rounds, count_sizes};
+pub use sizes::count_rounds;
 pub use theorems::{
     evening_out_ends, looking_finds_the_first, one_exchange_is_nearer, part_with_one_more,
     rounds_are_enough, rounds_are_evened_out, rounds_can_be_even,

@@ -32,7 +32,7 @@ pub fn count_rounds(rounds: &[u16], sizes: &mut [u16])
 }
 
 // The same on a board.
-pub fn count_sizes(board: &Board<'_>, sizes: &mut [u16])
+pub(crate) fn count_sizes(board: &Board<'_>, sizes: &mut [u16])
     ensures { sizes.new ≡ sizes_of (length sizes.old) (rounds_on board.now) }
 {
     count_rounds(board.rounds, sizes);

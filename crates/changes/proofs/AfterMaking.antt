@@ -19,7 +19,7 @@ use Rattle.changes.specs.declared.change.Change.TheVariants.{Add, Drop, GetRoom,
 use Rattle.changes.specs.Days.{Day, Stands, has_round, moved, number_moved, numbered}
 use Rattle.changes.specs.Making.{after, dropped, noted, start_of}
 use Rattle.changes.specs.Numbered.{Numbered, can, changed, rounds_for}
-use Rattle.changes.specs.OnBoard.{Noted}
+use Rattle.changes.specs.OnBoard.{CopiedFor}
 use Rattle.changes.specs.Statements.{ChangeStands}
 use Rattle.changes.specs.Waiting.{is_there}
 use Rattle.changes.proofs.Standing.{has_round_if}
@@ -151,7 +151,7 @@ module _ (d : Day) (c : Change) (stands : Stands d) (may : can (numbered d) c �
         gone a b e = grind (arith)
 
     -- the rounds are noted for the next change
-    pub noted_then : (before' : List ℕ) → Noted before before' ys touched → (i : ℕ) → round_of before' i ≡ round_of ys i
+    pub noted_then : (before' : List ℕ) → CopiedFor before before' ys touched → (i : ℕ) → round_of before' i ≡ round_of ys i
     noted_then before' notes i = notes.now i ∙ ⊎_elim
         (λ h. held (holds touched i) (round_of ys i) (round_of before i) h)
         (λ out. other (holds touched i) (round_of ys i) (round_of before i) out ∙ noted_so i ∙ unnamed_noted i (sym (touched_held i) ∙ out))

@@ -57,7 +57,7 @@ noting d (Drop i) e r s may plan meetings rounds le =
     let there = drop_there d i.0 may in
     let here : i.0 < length d.list.meetings = omega (arith, there.0, plan.each) in (
       omega (arith, here, ap length meetings),
-      ⊎_elim (λ out. absurd (has_some _ there.1 out)) (λ below. omega (arith, below, ap (λ xs. round_of xs i.0) rounds, le)) (plan.round i.0 here),
+      ⊎_elim (λ out. absurd (round_has _ there.1 out)) (λ below. omega (arith, below, ap (λ xs. round_of xs i.0) rounds, le)) (plan.round i.0 here),
     )
 noting d GiveRoomUp e r s may plan meetings rounds le = tt
 noting d GetRoom e r s may plan meetings rounds le = tt

@@ -21,19 +21,19 @@ use Rattle.changes.specs.declared.changed.Changed.{Changed}
 use Rattle.changes.specs.Days.{Day, Stands, first_day, numbered}
 use Rattle.changes.specs.Making.{after}
 use Rattle.changes.specs.Numbered.{Numbered, tested, whole}
-use Rattle.changes.specs.Rows.{CanAll, made_all}
+use Rattle.changes.specs.Rows.{CanAll, changed_all}
 use Rattle.changes.specs.Told.{ChangedLent, Promised, RowPromised, answer_of, last_day, told}
 use Rattle.changes.proofs.FirstDay.{first_numbered, first_stands}
 use Rattle.changes.proofs.NextDay.{next_stands}
 use Rattle.changes.proofs.RowAccepted.{only_what_can}
 
 -- the last day stands, and has the meetings that the row comes to
-pub last_stands : (d : Day) (cs : List Change) → Stands d → CanAll (numbered d) cs → Stands (last_day d cs) × (numbered (last_day d cs) ≡ made_all (numbered d) cs)
+pub last_stands : (d : Day) (cs : List Change) → Stands d → CanAll (numbered d) cs → Stands (last_day d cs) × (numbered (last_day d cs) ≡ changed_all (numbered d) cs)
 last_stands d [] stands can = (stands, refl)
 last_stands d (c ∷ cs) stands can =
     let next = next_stands d c stands can.0 in
     let rest = last_stands (after d c).day cs next.stands (subst (λ v. CanAll v cs) (sym next.list) can.1) in
-    (rest.0, rest.1 ∙ ap (λ v. made_all v cs) next.list)
+    (rest.0, rest.1 ∙ ap (λ v. changed_all v cs) next.list)
 
 -- each change is told as it was made
 pub promised : (d : Day) (cs : List Change) → Stands d → CanAll (numbered d) cs → Promised d cs (told d cs) (last_day d cs)
@@ -46,8 +46,8 @@ module _ (d : Contents) (cs : List Change) (proper : Proper d) (can : CanAll (wh
   can_first : CanAll (numbered (first_day d)) cs
   can_first = subst (λ v. CanAll v cs) (sym (first_numbered d proper)) can
 
-  pub last_list : (last_day (first_day d) cs).list ≡ (made_all (whole d) cs).list
-  last_list = ap (λ (v : Numbered). v.list) ((last_stands (first_day d) cs (first_stands d proper) can_first).1 ∙ ap (λ v. made_all v cs) (first_numbered d proper))
+  pub last_list : (last_day (first_day d) cs).list ≡ (changed_all (whole d) cs).list
+  last_list = ap (λ (v : Numbered). v.list) ((last_stands (first_day d) cs (first_stands d proper) can_first).1 ∙ ap (λ v. changed_all v cs) (first_numbered d proper))
 
   last_each : length (last_day (first_day d) cs).at ≡ length (last_day (first_day d) cs).list.meetings
   last_each = (last_stands (first_day d) cs (first_stands d proper) can_first).0.partial.each
@@ -68,7 +68,7 @@ module _ (d : Contents) (cs : List Change) (proper : Proper d) (can : CanAll (wh
     plan_held z is = rw is planned.rows.board
 
     -- AND THEN the last day is
-    pub day_lent : (z : Shape) (ms : List Meeting) (ys gs2 ss2 : List ℕ) → z ≡ shape_of d (length gs) (length ss) → many ≡ length ms → ms ≡ (made_all (whole d) cs).list.meetings → ys ≡ (last_day (first_day d) cs).at → BoardLent ms z ys gs1 gs2 ss1 ss2 → ChangedLent d cs xs (ys ++ drop (many - 0) xs1) gs gs2 ss ss2
+    pub day_lent : (z : Shape) (ms : List Meeting) (ys gs2 ss2 : List ℕ) → z ≡ shape_of d (length gs) (length ss) → many ≡ length ms → ms ≡ (changed_all (whole d) cs).list.meetings → ys ≡ (last_day (first_day d) cs).at → BoardLent ms z ys gs1 gs2 ss1 ss2 → ChangedLent d cs xs (ys ++ drop (many - 0) xs1) gs gs2 ss ss2
     day_lent z ms ys gs2 ss2 is many_is all last rows = record {
       rounds =
           ap (λ l. ys ++ l) (ap (drop (many - 0)) planned.rounds ∙ drop-append-drop (length d.meetings) xs (plan_of d).rounds (many - 0) (omega (arith, more)) plan_long)

@@ -16,7 +16,7 @@ use Rattle.changes.specs.declared.tested.Tested.{Tested}
 use Rattle.changes.specs.Days.{first_day}
 use Rattle.changes.specs.Numbered.{Numbered, changed, tested, whole}
 use Rattle.changes.specs.RowOn.{shape_of_row}
-use Rattle.changes.specs.Rows.{CanAll, made_all, rounds_after}
+use Rattle.changes.specs.Rows.{CanAll, changed_all, rounds_after}
 use Rattle.changes.specs.Tested.{row_tested, tested_lists}
 use Rattle.changes.specs.Told.{answer_of, told}
 use Rattle.changes.proofs.ProperAfter.{groups_kept, stations_kept}
@@ -24,20 +24,20 @@ use Rattle.changes.proofs.RowAccepted.{only_what_can, tested_as_made}
 use Rattle.changes.proofs.RowParts.{meetings_below}
 
 -- the parties stay
-pub groups_all : (v : Numbered) (cs : List Change) → (made_all v cs).list.groups ≡ v.list.groups
+pub groups_all : (v : Numbered) (cs : List Change) → (changed_all v cs).list.groups ≡ v.list.groups
 groups_all v [] = refl
 groups_all v (c ∷ cs) = groups_all (changed v c) cs ∙ groups_kept v.list c
 
-pub stations_all : (v : Numbered) (cs : List Change) → (made_all v cs).list.stations ≡ v.list.stations
+pub stations_all : (v : Numbered) (cs : List Change) → (changed_all v cs).list.stations ≡ v.list.stations
 stations_all v [] = refl
 stations_all v (c ∷ cs) = stations_all (changed v c) cs ∙ stations_kept v.list c
 
 -- what a row comes to that was tested
 pub record RowTested (d : Contents) (cs : List Change) (t : Tested) : Type 0 where
   pub can : CanAll (whole d) cs
-  pub all : vec_items t.meetings ≡ (made_all (whole d) cs).list.meetings
+  pub all : vec_items t.meetings ≡ (changed_all (whole d) cs).list.meetings
   pub after : vec_items t.rounds ≡ rounds_after (whole d) cs
-  pub tested : tested (whole d) cs 0 [] ≡ accepted (made_all (whole d) cs, rounds_after (whole d) cs)
+  pub tested : tested (whole d) cs 0 [] ≡ accepted (changed_all (whole d) cs, rounds_after (whole d) cs)
 
 pub row_is_tested : (d : Contents) (cs : List Change) (t : Tested) → row_tested d cs ≡ accepted (tested_lists t) → RowTested d cs t
 row_is_tested d cs t e =
@@ -61,7 +61,7 @@ row_is_tested d cs t e =
 
 module _ (d : Contents) (cs : List Change) (t : Tested) (is : RowTested d cs t) (many most first top : ℕ) (many_is : many ≡ length (vec_items t.meetings)) (first_is : first ≡ fewest d) (top_is : top ≡ largest (vec_items t.rounds)) (most_is : most ≡ max first top) (lr lg ls : ℕ) where
   abbrev e : Contents
-  e = (made_all (whole d) cs).list
+  e = (changed_all (whole d) cs).list
 
   pub more : length d.meetings ≤ many
   more = omega (arith, many_is, ap length is.all, meetings_below (whole d) cs)

@@ -14,13 +14,13 @@ use Rattle.fewest.proofs.OneCounted.{Entry, OneApart, counts_fewer, counts_more,
 use Rattle.changes.specs.declared.change.Change.TheVariants.{Add, Drop}
 use Rattle.changes.specs.declared.register.Register.{Register}
 use Rattle.changes.specs.Numbered.{Numbered, can, changed, left, whole}
-use Rattle.changes.specs.Registered.{Becomes, Kept, registered}
+use Rattle.changes.specs.Registered.{Agrees, ByChange, registered}
 use Rattle.changes.proofs.FirstDay.{left_whole}
 use Rattle.changes.proofs.Left.{left_proper}
 use Rattle.changes.proofs.LeftChanged.{added_apart, can_add, drop_here, dropped_apart, dropped_many, left_added, long_changed, proper_changed}
 
 -- a register that says what is proper
-kept_as : (v : Numbered) (o : Register) → registered o ≡ v → Proper v.list → length v.there ≡ length v.list.meetings → Counts (left v) o.tally → o.many ≡ length (left v).meetings → Kept o
+kept_as : (v : Numbered) (o : Register) → registered o ≡ v → Proper v.list → length v.there ≡ length v.list.meetings → Counts (left v) o.tally → o.many ≡ length (left v).meetings → Agrees o
 kept_as v o is proper each counts many = record {
   proper = subst (λ (w : Numbered). Proper w.list) (sym is) proper;
   each = subst (λ (w : Numbered). length w.there ≡ length w.list.meetings) (sym is) each;
@@ -29,13 +29,13 @@ kept_as v o is proper each counts many = record {
 }
 
 -- the register of a whole list
-pub kept_whole : (l : MeetingList) (n : Register) → registered n ≡ whole (contents l) → Counts (contents l) n.tally → n.many ≡ length (contents l).meetings → Kept n
+pub kept_whole : (l : MeetingList) (n : Register) → registered n ≡ whole (contents l) → Counts (contents l) n.tally → n.many ≡ length (contents l).meetings → Agrees n
 kept_whole l n is counts many =
     kept_as (whole (contents l)) n is (proper l) (length-replicate _ _)
     (subst (λ d. Counts d n.tally) (sym (left_whole (contents l))) counts)
     (many ∙ ap (λ (d : Contents). length d.meetings) (sym (left_whole (contents l))))
 
-module _ (n : Register) (kept : Kept n) where
+module _ (n : Register) (kept : Agrees n) where
   -- the number of meetings that there are is within what the code counts with
   few : length (left (registered n)).meetings ≤ most_meetings
   few = (left_proper (registered n) kept.each kept.proper).few
@@ -65,7 +65,7 @@ module _ (n : Register) (kept : Kept n) where
     pub many_fits : n.many + 1 < 2 ^ 16
     many_fits = omega (arith, kept.many, few)
 
-    pub added : (o : Register) → registered o ≡ changed (registered n) (Add m) → o.tally.groups.items ≡ one_more n.tally.groups.items m.group.0 → o.tally.stations.items ≡ one_more n.tally.stations.items m.station.0 → o.many ≡ n.many + 1 → Becomes n o (Add m)
+    pub added : (o : Register) → registered o ≡ changed (registered n) (Add m) → o.tally.groups.items ≡ one_more n.tally.groups.items m.group.0 → o.tally.stations.items ≡ one_more n.tally.stations.items m.station.0 → o.many ≡ n.many + 1 → ByChange n o (Add m)
     added o is groups stations many =
         let v = registered n in
         let apart = added_apart v kept.each m may in
@@ -99,7 +99,7 @@ module _ (n : Register) (kept : Kept n) where
     pub station_some : 1 ≤ get_or n.tally.stations.items m.station.0 0
     station_some = entry_some (left (changed (registered n) (Drop i))) (left (registered n)) m Stations n.tally.stations.items apart kept.tally.of_stations
 
-    pub dropped : (o : Register) → registered o ≡ changed (registered n) (Drop i) → o.tally.groups.items ≡ one_fewer n.tally.groups.items m.group.0 → o.tally.stations.items ≡ one_fewer n.tally.stations.items m.station.0 → o.many ≡ n.many - 1 → Becomes n o (Drop i)
+    pub dropped : (o : Register) → registered o ≡ changed (registered n) (Drop i) → o.tally.groups.items ≡ one_fewer n.tally.groups.items m.group.0 → o.tally.stations.items ≡ one_fewer n.tally.stations.items m.station.0 → o.many ≡ n.many - 1 → ByChange n o (Drop i)
     dropped o same groups stations many =
         let v = registered n in
         record {

@@ -15,7 +15,7 @@ use Rattle.fewest.proofs.OneCounted.{OneApart, one_pushed}
 use Rattle.changes.specs.declared.change.Change.{Change}
 use Rattle.changes.specs.declared.change.Change.TheVariants.{Add, Drop, GetRoom, GiveRoomUp}
 use Rattle.changes.specs.Numbered.{Numbered, can, changed, left, those}
-use Rattle.changes.specs.Rows.{CanAll, made_all}
+use Rattle.changes.specs.Rows.{CanAll, changed_all}
 
 module _ {A : Type 0} where
   -- a marked element at the end
@@ -146,7 +146,7 @@ module _ (v : Numbered) (long : length v.there ≡ length v.list.meetings) where
   }
 
 -- the same after a row that can be made
-pub made_proper : (v : Numbered) (cs : List Change) → length v.there ≡ length v.list.meetings → Proper v.list → CanAll v cs → Proper (made_all v cs).list
+pub made_proper : (v : Numbered) (cs : List Change) → length v.there ≡ length v.list.meetings → Proper v.list → CanAll v cs → Proper (changed_all v cs).list
 made_proper v [] long proper may = proper
 made_proper v (c ∷ cs) long proper may =
     made_proper (changed v c) cs (long_changed v long c) (proper_changed v long c proper may.0) may.1

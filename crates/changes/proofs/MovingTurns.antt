@@ -12,20 +12,20 @@ use Rattle.chains.specs.Statements.{Once}
 use Rattle.chains.proofs.Marks.{holds_more}
 use Rattle.chains.proofs.Members.{place_of, unless}
 use Rattle.changes.specs.Days.{moved}
-use Rattle.changes.specs.OnBoard.{Noted}
+use Rattle.changes.specs.OnBoard.{CopiedFor}
 
 -- the first t of the meetings were looked at, and so many of them were moved
 pub record Moving (xs before now is : List ℕ) (t many : ℕ) : Type 0 where
-  pub noted : Noted before now xs (take t is)
+  pub noted : CopiedFor before now xs (take t is)
   pub counted : many ≡ count_by (λ i. moved (round_of before i) (round_of xs i)) (take t is)
 
 pub moving_starts : (xs before is : List ℕ) → Moving xs before before is 0 0
 moving_starts xs before is = record { noted = record { long = refl; now = λ i. refl }; counted = refl }
 
-pub moving_ends : (xs before now is : List ℕ) (t many : ℕ) → length is ≤ t → Moving xs before now is t many → (many ≡ count_by (λ i. moved (round_of before i) (round_of xs i)) is) × Noted before now xs is
+pub moving_ends : (xs before now is : List ℕ) (t many : ℕ) → length is ≤ t → Moving xs before now is t many → (many ≡ count_by (λ i. moved (round_of before i) (round_of xs i)) is) × CopiedFor before now xs is
 moving_ends xs before now is t many all so_far = (
   so_far.counted ∙ ap (count_by (λ i. moved (round_of before i) (round_of xs i))) (take_all t is all),
-  subst (Noted before now xs) (take_all t is all) so_far.noted,
+  subst (CopiedFor before now xs) (take_all t is all) so_far.noted,
 )
 
 module _ (xs before now is : List ℕ) (t many : ℕ) (so_far : Moving xs before now is t many) (here : t < length is) where
@@ -48,7 +48,7 @@ module _ (xs before now is : List ℕ) (t many : ℕ) (so_far : Moving xs before
   pub still_noted : Once is → round_of now i ≡ round_of before i
   still_noted once = so_far.noted.now i ∙ cond-false (holds (take t is) i) (round_of xs i) (round_of before i) (new once)
 
-  noted_more : i < length xs → length xs ≤ length before → Noted before (set now i (get_or xs i 0)) xs (take (t + 1) is)
+  noted_more : i < length xs → length xs ≤ length before → CopiedFor before (set now i (get_or xs i 0)) xs (take (t + 1) is)
   noted_more below long = record {
     long = length-set now i (get_or xs i 0) ∙ so_far.noted.long;
     now = λ j. ⊎_elim

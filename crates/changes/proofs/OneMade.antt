@@ -20,7 +20,7 @@ use Rattle.changes.specs.Days.{Day, moved, number_moved, numbered, rounds_of}
 use Rattle.changes.specs.Making.{after, again_steps, grown, made_again, noted, put_each, start_of, steps_putting, waiting}
 use Rattle.changes.specs.MakingOn.{AfterChange, BeforeChange}
 use Rattle.changes.specs.Numbered.{Numbered, can, changed, rounds_for}
-use Rattle.changes.specs.OnBoard.{Noted, Notes, TakesRest, Touches, newcomer}
+use Rattle.changes.specs.OnBoard.{CopiedFor, Notes, TakesRest, Touches, newcomer}
 use Rattle.changes.specs.Told.{told_of}
 use Rattle.changes.proofs.AfterMaking.{dropped_agree, moved_counted, noted_then, touched_below, touched_once}
 use Rattle.changes.proofs.BeforeMaking.{drop_there}
@@ -113,5 +113,5 @@ module _ (d : Day) (c : Change) (e e1 e2 f : Board) (from to : ℕ) (b : BeforeC
         same : (r l m : ℕ) → r ≡ rounds_of (after d c).day → l ≡ (after d c).looks → m ≡ number_moved d.at (after d c).day.at → record { rounds = r; looks = l; moved = m } ≡ told_of d (after d c).day (after d c).looks
         same r l m e f g = rw (e, f, g) refl
 
-    pub noted_for_next : (bs2 : List ℕ) → Noted bs1 bs2 (rounds_on f) (found_in tw) → (i : ℕ) → round_of bs2 i ≡ round_of (rounds_on f) i
-    noted_for_next bs2 n i = noted_then d c b.stands b.may bs1 before_so (found_in tw) touched_is bs2 (subst (λ ys. Noted bs1 bs2 ys (found_in tw)) rounds_then n) i ∙ ap (λ l. round_of l i) (sym rounds_then)
+    pub noted_for_next : (bs2 : List ℕ) → CopiedFor bs1 bs2 (rounds_on f) (found_in tw) → (i : ℕ) → round_of bs2 i ≡ round_of (rounds_on f) i
+    noted_for_next bs2 n i = noted_then d c b.stands b.may bs1 before_so (found_in tw) touched_is bs2 (subst (λ ys. CopiedFor bs1 bs2 ys (found_in tw)) rounds_then n) i ∙ ap (λ l. round_of l i) (sym rounds_then)

@@ -14,14 +14,14 @@ use Rattle.changes.specs.declared.change.Change.{Change}
 use Rattle.changes.specs.declared.change.Change.TheVariants.{Add, Drop, GetRoom, GiveRoomUp}
 use Rattle.changes.specs.Bytes.{bytes_of_change, bytes_of_changes, change_at, changes_at, id_at, next_at, read_row, width_of}
 use Rattle.changes.specs.Numbered.{Numbered, can, changed, rounds_for, tested}
-use Rattle.changes.specs.Rows.{CanAll, OnlyWhatCan, ReadThenWritten, TestedAsMade, made_all, rounds_after}
+use Rattle.changes.specs.Rows.{CanAll, OnlyWhatCan, ReadThenWritten, TestedAsMade, changed_all, rounds_after}
 
 -- a row that can be made, as it is tested
 pub tested_as_made : TestedAsMade
 tested_as_made v [] i rs h = ap (λ l. accepted (v, l)) (sym (append-nil rs))
 tested_as_made v (c ∷ cs) i rs h =
     let rest = tested_as_made (changed v c) cs (i + 1) (rs ++ rounds_for (changed v c) ∷ []) h.1 in
-    rw h.0 (rest ∙ ap (λ l. accepted (made_all (changed v c) cs, l)) (append_assoc rs (rounds_for (changed v c) ∷ []) (rounds_after (changed v c) cs)))
+    rw h.0 (rest ∙ ap (λ l. accepted (changed_all (changed v c) cs, l)) (append_assoc rs (rounds_for (changed v c) ∷ []) (rounds_after (changed v c) cs)))
 
 pub never : {T : Type 0} {x : T} {a b : ℕ} → refused a b ≡ accepted x → ⊥
 never e = let z : ◌≡◌ {A = ℕ} 0 1 = cc e in omega arith

@@ -21,7 +21,7 @@ use Rattle.changes.specs.Days.{first_day}
 use Rattle.changes.specs.Keeping.{Beside, Room}
 use Rattle.changes.specs.Numbered.{whole}
 use Rattle.changes.specs.RowOn.{CanMakeFirst, CanMakeRow, day_before, most_rounds}
-use Rattle.changes.specs.Rows.{CanAll, made_all, rounds_after}
+use Rattle.changes.specs.Rows.{CanAll, changed_all, rounds_after}
 use Rattle.changes.proofs.FirstDay.{first_numbered, first_rounds, first_stands}
 use Rattle.changes.proofs.LeftChanged.{made_proper}
 use Rattle.changes.proofs.RowParts.{meetings_below}
@@ -74,7 +74,7 @@ module _ (w : Row) (z : Shape) (xs ys : List ℕ) (first : CanMakeFirst w z (len
   row_ready = subst (λ e. CanMakeRow e w.changes.now (vec_items w.tested.meetings) (vec_items w.tested.rounds) z ys w.rounds) (sym day_is) (record {
     stands = first_stands d p;
     can = subst (λ v. CanAll v w.changes.now) (sym (first_numbered d p)) first.can;
-    all = first.all ∙ ap (λ v. (made_all v w.changes.now).list.meetings) (sym (first_numbered d p));
+    all = first.all ∙ ap (λ v. (changed_all v w.changes.now).list.meetings) (sym (first_numbered d p));
     after = first.after ∙ ap (λ v. rounds_after v w.changes.now) (sym (first_numbered d p));
     at = filled ∙ ap (λ l. l ++ replicate (length xs - length d.meetings) none) planned ∙ ap (λ n. (first_day d).at ++ replicate n none) (let same : length xs - length d.meetings ≡ length (vec_items w.tested.meetings) - length (first_day d).at = omega (arith, first.many, ap length planned, front_long) in same);
     groups = first.groups;

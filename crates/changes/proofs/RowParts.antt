@@ -10,14 +10,14 @@ use Rattle.changes.specs.declared.change.Change.{Change}
 use Rattle.changes.specs.declared.change.Change.TheVariants.{Add, Drop, GetRoom, GiveRoomUp}
 use Rattle.changes.specs.Making.{grown}
 use Rattle.changes.specs.Numbered.{Numbered, changed, list_after}
-use Rattle.changes.specs.Rows.{made_all}
+use Rattle.changes.specs.Rows.{changed_all}
 
 -- the front of a list with something behind it
 front_is : {X : Type 0} (n : ℕ) (xs ys : List X) → length xs ≡ n → take n (xs ++ ys) ≡ xs
 front_is n xs ys e = take-append-le n xs ys (omega arith) ∙ take_all n xs (omega arith)
 
 -- what comes is behind the meetings from before
-made_more : (v : Numbered) (cs : List Change) → (more : List Meeting) × ((made_all v cs).list.meetings ≡ v.list.meetings ++ more)
+made_more : (v : Numbered) (cs : List Change) → (more : List Meeting) × ((changed_all v cs).list.meetings ≡ v.list.meetings ++ more)
 made_more v [] = ([], sym (append-nil v.list.meetings))
 made_more v (c ∷ cs) = let rest = made_more (changed v c) cs in let first = more_by v.list c in (first.0 ++ rest.0, rest.1 ∙ ap (λ l. l ++ rest.0) first.1 ∙ append_assoc v.list.meetings first.0 rest.0)
   where
@@ -28,10 +28,10 @@ made_more v (c ∷ cs) = let rest = made_more (changed v c) cs in let first = mo
     more_by d GetRoom = ([], sym (append-nil d.meetings))
 
 -- so the first of all are these
-pub first_meetings : (v : Numbered) (cs : List Change) (ms : List Meeting) (n : ℕ) → ms ≡ (made_all v cs).list.meetings → n ≡ length v.list.meetings → take n ms ≡ v.list.meetings
+pub first_meetings : (v : Numbered) (cs : List Change) (ms : List Meeting) (n : ℕ) → ms ≡ (changed_all v cs).list.meetings → n ≡ length v.list.meetings → take n ms ≡ v.list.meetings
 first_meetings v cs ms n all many = let more = made_more v cs in ap (take n) (all ∙ more.1) ∙ front_is n v.list.meetings more.0 (sym many)
 
-pub meetings_below : (v : Numbered) (cs : List Change) → length v.list.meetings ≤ length (made_all v cs).list.meetings
+pub meetings_below : (v : Numbered) (cs : List Change) → length v.list.meetings ≤ length (changed_all v cs).list.meetings
 meetings_below v cs = let more = made_more v cs in omega (arith, ap length more.1, length-append v.list.meetings more.0)
 
 -- the rounds, with none for those that are to come: the first are those with an added meeting

@@ -7,7 +7,7 @@ use Rattle.meetings.specs.RoundTrips.{AllBytes}
 use Rattle.changes.specs.declared.change.Change.{Change}
 use Rattle.changes.specs.Bytes.{bytes_of_change, bytes_of_changes, changes_at, next_at, width_of}
 use Rattle.changes.specs.Numbered.{Numbered, can, changed, rounds_for, tested}
-use Rattle.changes.specs.Rows.{CanAll, FirstThatCannot, ReadAsFirst, RefusedAsFirst, made_all}
+use Rattle.changes.specs.Rows.{CanAll, FirstThatCannot, ReadAsFirst, RefusedAsFirst, changed_all}
 use Rattle.changes.proofs.RowAccepted.{change_accepted, never, next_accepted}
 
 -- a change that cannot be made, behind one that can
@@ -44,7 +44,7 @@ record Stopped (v : Numbered) (bs : List ℕ) (at z number place : ℕ) : Type 0
   pub before : CanAll v more
   pub bytes : drop at bs ≡ bytes_of_changes more ++ drop (at + length (bytes_of_changes more)) bs
   pub here : at + length (bytes_of_changes more) < length bs
-  pub next : next_at (made_all v more) bs (at + length (bytes_of_changes more)) (z + length more) ≡ refused number place
+  pub next : next_at (changed_all v more) bs (at + length (bytes_of_changes more)) (z + length more) ≡ refused number place
 
 stopped_here : (v : Numbered) (bs : List ℕ) (at z number place : ℕ) → at < length bs → next_at v bs at z ≡ refused number place → Stopped v bs at z number place
 stopped_here v bs at z number place here e =

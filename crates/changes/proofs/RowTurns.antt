@@ -24,7 +24,7 @@ use Rattle.changes.specs.Making.{after, grown}
 use Rattle.changes.specs.MakingOn.{AfterChange, BeforeChange}
 use Rattle.changes.specs.Numbered.{Numbered, can, changed, list_after, rounds_for}
 use Rattle.changes.specs.RowOn.{CanMakeRow, added}
-use Rattle.changes.specs.Rows.{CanAll, made_all, rounds_after}
+use Rattle.changes.specs.Rows.{CanAll, changed_all, rounds_after}
 use Rattle.changes.specs.Statements.{ChangeStands}
 use Rattle.changes.specs.Told.{last_day, told}
 use Rattle.changes.proofs.NextDay.{next_stands, proper_then}
@@ -153,7 +153,7 @@ module _ (d : Day) (cs : List Change) (ms : List Meeting) (rs : List ℕ) (z : S
       ready = record {
         stands = next.stands;
         can = subst (λ w. CanAll w (drop (t + 1) cs)) (sym next.list) ready.can.1;
-        all = ready.all ∙ ap (λ w. (made_all w (drop (t + 1) cs)).list.meetings) (sym next.list);
+        all = ready.all ∙ ap (λ w. (changed_all w (drop (t + 1) cs)).list.meetings) (sym next.list);
         after = rounds_rest ∙ ap (λ w. rounds_after w (drop (t + 1) cs)) (sym next.list);
         at = ap (λ l. l ++ drop n' xs) made.rounds ∙ ap (λ l. (after e c).day.at ++ l) (rest_rounds e.at xs (length ms) n' (omega (arith, many, meetings_kept e.list c, ready.stands.partial.each)) ready.at ∙ ap (λ j. replicate (length ms - j) none) (many ∙ sym next_long));
         groups = ready.groups ∙ sym (groups_kept e.list c) ∙ ap (λ (l : Contents). l.groups) (sym same_list);
@@ -232,7 +232,7 @@ row_made d cs ms rs z xs gs gs' ss ss' k m s n from t before now all so_far = re
     nothing = drop_all t cs all
 
     meetings_last : ms ≡ so_far.e.list.meetings
-    meetings_last = so_far.ready.all ∙ ap (λ l. (made_all (numbered so_far.e) l).list.meetings) nothing
+    meetings_last = so_far.ready.all ∙ ap (λ l. (changed_all (numbered so_far.e) l).list.meetings) nothing
 
     rounds_last : xs ≡ so_far.e.at
     rounds_last = so_far.ready.at ∙ ap (λ j. so_far.e.at ++ replicate j none) (let none_more : length ms - length so_far.e.at ≡ 0 = omega (arith, ap length meetings_last, so_far.ready.stands.partial.each) in none_more) ∙ append-nil so_far.e.at

@@ -41,7 +41,7 @@ pub record TakesOut (d e : Board) (is js : List ℕ) (passes : ℕ → Bool) : T
   pub out : AreOut e js
 
 -- the rounds before a change became before': for these meetings they are xs now, for all others what they were
-pub record Noted (before before' xs is : List ℕ) : Type 0 where
+pub record CopiedFor (before before' xs is : List ℕ) : Type 0 where
   pub long : length before' ≡ length before
   pub now : (i : ℕ) → round_of before' i ≡ cond (holds is i) (round_of xs i) (round_of before i)
 

@@ -13,13 +13,13 @@ registered n = record {
 }
 
 -- the list is proper and has a mark for each meeting, and the tally is that of the meetings that there are
-pub record Kept (n : Register) : Type 0 where
+pub record Agrees (n : Register) : Type 0 where
   pub proper : Proper (registered n).list
   pub each : length (registered n).there ≡ length (registered n).list.meetings
   pub tally : Counts (left (registered n)) n.tally
   pub many : n.many ≡ length (left (registered n)).meetings
 
 -- a register n becomes o by a change
-pub record Becomes (n o : Register) (c : Change) : Type 0 where
+pub record ByChange (n o : Register) (c : Change) : Type 0 where
   pub is : registered o ≡ changed (registered n) c
-  pub kept : Kept o
+  pub kept : Agrees o

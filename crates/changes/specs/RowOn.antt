@@ -14,7 +14,7 @@ use Rattle.changes.specs.declared.change.Change.TheVariants.{Add, Drop, GetRoom,
 use Rattle.changes.specs.declared.row.Row.{Row}
 use Rattle.changes.specs.Days.{Day, Stands, numbered, rounds_of}
 use Rattle.changes.specs.Numbered.{whole}
-use Rattle.changes.specs.Rows.{CanAll, made_all, rounds_after}
+use Rattle.changes.specs.Rows.{CanAll, changed_all, rounds_after}
 
 -- how many numbers a change gives out
 abbrev pub added : Change → ℕ
@@ -32,7 +32,7 @@ day_before w xs = record { list = contents w.list.now; at = take (length (conten
 pub record CanMakeRow (d : Day) (cs : List Change) (ms : List Meeting) (rs : List ℕ) (z : Shape) (xs : List ℕ) (from : ℕ) : Type 0 where
   pub stands : Stands d
   pub can : CanAll (numbered d) cs
-  pub all : ms ≡ (made_all (numbered d) cs).list.meetings
+  pub all : ms ≡ (changed_all (numbered d) cs).list.meetings
   pub after : rs ≡ rounds_after (numbered d) cs
   pub at : xs ≡ d.at ++ replicate (length ms - length d.at) none
   pub groups : z.groups ≡ d.list.groups
@@ -48,7 +48,7 @@ most_rounds w = max w.rounds (largest (vec_items w.tested.rounds))
 -- a row that was tested, in slices of this shape that are long enough for it: m meetings have a number in the end
 pub record CanMakeFirst (w : Row) (z : Shape) (m : ℕ) : Type 0 where
   pub can : CanAll (whole (contents w.list.now)) w.changes.now
-  pub all : vec_items w.tested.meetings ≡ (made_all (whole (contents w.list.now)) w.changes.now).list.meetings
+  pub all : vec_items w.tested.meetings ≡ (changed_all (whole (contents w.list.now)) w.changes.now).list.meetings
   pub after : vec_items w.tested.rounds ≡ rounds_after (whole (contents w.list.now)) w.changes.now
   pub many : m ≡ length (vec_items w.tested.meetings)
   pub now : w.rounds ≡ fewest (contents w.list.now)

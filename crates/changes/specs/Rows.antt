@@ -14,9 +14,9 @@ CanAll v [] = Unit {0}
 CanAll v (c ∷ cs) = (can v c ≡ true) × CanAll (changed v c) cs
 
 -- the meetings in the end
-abbrev pub made_all : Numbered → List Change → Numbered
-made_all v [] = v
-made_all v (c ∷ cs) = made_all (changed v c) cs
+abbrev pub changed_all : Numbered → List Change → Numbered
+changed_all v [] = v
+changed_all v (c ∷ cs) = changed_all (changed v c) cs
 
 -- the number of rounds after each
 abbrev pub rounds_after : Numbered → List Change → List ℕ
@@ -27,7 +27,7 @@ rounds_after v (c ∷ cs) = rounds_for (changed v c) ∷ rounds_after (changed v
 abbrev pub TestedAsMade : Type 0
 TestedAsMade =
     (v : Numbered) (cs : List Change) (i : ℕ) (rs : List ℕ) → CanAll v cs →
-    tested v cs i rs ≡ accepted (made_all v cs, rs ++ rounds_after v cs)
+    tested v cs i rs ≡ accepted (changed_all v cs, rs ++ rounds_after v cs)
 
 -- nothing else is accepted
 abbrev pub OnlyWhatCan : Type 0
@@ -43,7 +43,7 @@ pub record FirstThatCannot (v : Numbered) (cs : List Change) (p : ℕ) : Type 0 
   pub row : cs ≡ came ++ one ∷ rest
   pub place : length came ≡ p
   pub before : CanAll v came
-  pub cannot : can (made_all v came) one ≡ false
+  pub cannot : can (changed_all v came) one ≡ false
 
 -- A ROW IS REFUSED, by number 6, for the first change that cannot be made; the places are counted from i on
 abbrev pub RefusedAsFirst : Type 0
@@ -57,7 +57,7 @@ pub record FirstRefused (v : Numbered) (bs : List ℕ) (number place : ℕ) : Ty
   pub before : CanAll v came
   pub bytes : bs ≡ bytes_of_changes came ++ drop (length (bytes_of_changes came)) bs
   pub here : length (bytes_of_changes came) < length bs
-  pub next : next_at (made_all v came) bs (length (bytes_of_changes came)) (length came) ≡ refused number place
+  pub next : next_at (changed_all v came) bs (length (bytes_of_changes came)) (length came) ≡ refused number place
 
 -- BYTES ARE REFUSED for the first of them that say no change that can be made
 abbrev pub ReadAsFirst : Type 0

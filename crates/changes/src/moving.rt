@@ -7,7 +7,7 @@ ghost use Rattle.chains.specs.Finding.{Finds, found_in};
 ghost use Rattle.chains.specs.Partial.{round_of};
 ghost use Rattle.chains.specs.Statements.{Once};
 ghost use Rattle.changes.specs.Days.{moved};
-ghost use Rattle.changes.specs.OnBoard.{Noted};
+ghost use Rattle.changes.specs.OnBoard.{CopiedFor};
 
 use chains::{Board, Found, NONE};
 
@@ -25,7 +25,7 @@ fn count_moved(rounds: &[u16], before: &mut [u16], touched: &[u16]) -> u16
     requires once { Once touched.now }
     requires few { length touched.now ≤ none }
     ensures moved { result ≡ count_by (λ i. moved (round_of before.old i) (round_of rounds.now i)) touched.now }
-    ensures noted { Noted before.old before.new rounds.now touched.now }
+    ensures noted { CopiedFor before.old before.new rounds.now touched.now }
 {
     let mut many = 0;
     for meeting in touched {
@@ -46,7 +46,7 @@ pub(crate) fn moved_on(board: &Board<'_>, before: &mut [u16], touched: &mut Foun
     requires long { length (meetings_on board.now) ≤ length before.old }
     requires once { Once (found_in touched.old) }
     ensures moved { result ≡ count_by (λ i. moved (round_of before.old i) (round_of (rounds_on board.now) i)) (found_in touched.old) }
-    ensures noted { Noted before.old before.new (rounds_on board.now) (found_in touched.old) }
+    ensures noted { CopiedFor before.old before.new (rounds_on board.now) (found_in touched.old) }
     ensures forgotten { Finds touched.old touched.new [] }
 {
     let moved = count_moved(board.rounds, before, touched.list());

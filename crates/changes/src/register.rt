@@ -4,17 +4,12 @@ ghost use Rattle.meetings.specs.Held.{contents};
 ghost use Rattle.meetings.specs.Refusals.{IfMemory};
 ghost use Rattle.changes.specs.declared.change.Change.TheVariants.{Add, Drop};
 ghost use Rattle.changes.specs.Numbered.{can, rounds_for, whole};
-ghost use Rattle.changes.specs.Registered.{Becomes, Kept, registered};
+ghost use Rattle.changes.specs.Registered.{Agrees, ByChange, registered};
 
 use crate::change::Change;
 use fewest::Tally;
-use meetings::{Meeting, MeetingId, MeetingList, Refusal};
+use meetings::{MOST, MOST_MEETINGS, Meeting, MeetingId, MeetingList, Refusal};
 use std::alloc::Global;
-
-// The most rooms, and the most meetings.
-const MOST: u16 = 120;
-
-const MOST_MEETINGS: usize = 4000;
 
 #[derive(Drop)]
 pub struct Register {
@@ -31,7 +26,7 @@ impl Register {
     // The register of a list, of which no meeting was dropped. Only memory can be wanting.
     pub fn of(heap: Global, list: &MeetingList) -> Result<Register, Refusal>
         ensures is { IfMemory result (λ n. registered n ≡ whole (contents list.now)) }
-        ensures kept { IfMemory result Kept }
+        ensures kept { IfMemory result Agrees }
     {
         let mut meetings = Vec::new(heap);
         meetings.extend_from_slice(list.meetings())?;
@@ -75,7 +70,7 @@ impl Register {
 
     // The number of rounds of the meetings that there are.
     pub fn rounds(&self) -> u16
-        requires { Kept self.now }
+        requires { Agrees self.now }
         ensures { result ≡ rounds_for (registered self.now) }
     {
         self.tally.rounds(self.many, self.rooms)
@@ -84,9 +79,9 @@ impl Register {
     // A meeting more, with the next number.
     #[tactic(auto, using(crate::proofs::Keeping::group_counted, crate::proofs::Keeping::station_counted, crate::proofs::Keeping::group_fits, crate::proofs::Keeping::station_fits, crate::proofs::Keeping::many_fits))]
     fn add(&mut self, meeting: Meeting) -> Result<(), Refusal>
-        requires kept { Kept self.old }
+        requires kept { Agrees self.old }
         requires can { can (registered self.old) (Add meeting) ≡ true }
-        ensures { IfMemory result (λ u. Becomes self.old self.new (Add meeting)) }
+        ensures { IfMemory result (λ u. ByChange self.old self.new (Add meeting)) }
     {
         self.meetings.push(meeting)?;
         self.there.push(true)?;
@@ -98,9 +93,9 @@ impl Register {
     // A meeting is dropped.
     #[tactic(auto, using(crate::proofs::Keeping::gone_group_counted, crate::proofs::Keeping::gone_station_counted, crate::proofs::Keeping::group_some, crate::proofs::Keeping::station_some, crate::proofs::Keeping::many_some))]
     pub fn drop_meeting(&mut self, id: MeetingId)
-        requires kept { Kept self.old }
+        requires kept { Agrees self.old }
         requires can { can (registered self.old) (Drop id) ≡ true }
-        ensures { Becomes self.old self.new (Drop id) }
+        ensures { ByChange self.old self.new (Drop id) }
     {
         let meeting = self.meetings[id.0 as usize];
         self.there[id.0 as usize] = false;
@@ -110,9 +105,9 @@ impl Register {
 
     // Makes a change. Only memory can be wanting.
     pub(crate) fn make(&mut self, change: Change) -> Result<(), Refusal>
-        requires kept { Kept self.old }
+        requires kept { Agrees self.old }
         requires can { can (registered self.old) change ≡ true }
-        ensures { IfMemory result (λ u. Becomes self.old self.new change) }
+        ensures { IfMemory result (λ u. ByChange self.old self.new change) }
     {
         match change {
             Change::Add(meeting) => self.add(meeting)?,

@@ -9,7 +9,7 @@ use Rattle.changes.specs.declared.changed.Changed.{Changed}
 use Rattle.changes.specs.Days.{Day, Stands, first_day, rounds_of}
 use Rattle.changes.specs.Making.{after}
 use Rattle.changes.specs.Numbered.{Numbered, changed, whole}
-use Rattle.changes.specs.Rows.{CanAll, made_all}
+use Rattle.changes.specs.Rows.{CanAll, changed_all}
 use Rattle.changes.specs.Told.{last_day, told}
 use Rattle.changes.proofs.DayLent.{last_list, last_stands}
 use Rattle.changes.proofs.FirstDay.{first_numbered, first_rounds, first_stands}
@@ -23,7 +23,7 @@ one_more v (Drop i) cs = refl
 one_more v GiveRoomUp cs = refl
 one_more v GetRoom cs = refl
 
-numbers_made : (v : Numbered) (cs : List Change) → length (made_all v cs).list.meetings ≡ length v.list.meetings + added cs
+numbers_made : (v : Numbered) (cs : List Change) → length (changed_all v cs).list.meetings ≡ length v.list.meetings + added cs
 numbers_made v [] = omega arith
 numbers_made v (c ∷ cs) = numbers_made (changed v c) cs ∙ one_more v c cs
 

@@ -10,7 +10,7 @@ use Rattle.meetings.specs.Lists.{Contents, Proper}
 use Rattle.changes.specs.declared.change.Change.{Change}
 use Rattle.changes.specs.declared.change.Change.TheVariants.{Add, Drop, GetRoom, GiveRoomUp}
 use Rattle.changes.specs.Numbered.{Numbered, can, changed, whole}
-use Rattle.changes.specs.Rows.{CanAll, made_all}
+use Rattle.changes.specs.Rows.{CanAll, changed_all}
 use Rattle.changes.proofs.DayLent.{last_list}
 use Rattle.changes.proofs.DayMade.{groups_all, stations_all}
 use Rattle.changes.proofs.LeftChanged.{can_add, long_changed, proper_changed}
@@ -19,7 +19,7 @@ use Rattle.day.specs.Reports.{last_of}
 use Rattle.day.proofs.Last.{stands_last}
 
 -- as many rooms as there were, with those that were got, and without those that were given up
-rooms_made : (v : Numbered) (cs : List Change) → CanAll v cs → (made_all v cs).list.rooms + given_up cs ≡ v.list.rooms + got cs
+rooms_made : (v : Numbered) (cs : List Change) → CanAll v cs → (changed_all v cs).list.rooms + given_up cs ≡ v.list.rooms + got cs
 rooms_made v [] can = refl
 rooms_made v (Add m ∷ cs) can = rooms_made (changed v (Add m)) cs can.1
 rooms_made v (Drop i ∷ cs) can = rooms_made (changed v (Drop i)) cs can.1
@@ -31,7 +31,7 @@ bytes_append : (ms ns : List Meeting) → bytes_of_meetings (ms ++ ns) ≡ bytes
 bytes_append [] ns = refl
 bytes_append (m ∷ ms) ns = ap (λ l. m.group.0 ∷ m.station.0 ∷ l) (bytes_append ms ns)
 
-meetings_made : (v : Numbered) (cs : List Change) → bytes_of_meetings (made_all v cs).list.meetings ≡ bytes_of_meetings v.list.meetings ++ all_added cs
+meetings_made : (v : Numbered) (cs : List Change) → bytes_of_meetings (changed_all v cs).list.meetings ≡ bytes_of_meetings v.list.meetings ++ all_added cs
 meetings_made v [] = sym (append-nil (bytes_of_meetings v.list.meetings))
 meetings_made v (Add m ∷ cs) =
     meetings_made (changed v (Add m)) cs

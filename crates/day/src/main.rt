@@ -58,10 +58,15 @@ fn day(
         Ok(made) => made,
         Err(refusal) => return refused(rt, refusal),
     };
+    // made before a file is written, since memory may be wanting for it
+    let text = match changes_text(rt.alloc(), &made.told) {
+        Ok(text) => text,
+        Err(refusal) => return refused(rt, refusal),
+    };
     if !write_named(rt, plan, &made.plan)? || !write_named(rt, list, &made.list)? {
         return Ok(ExitCode::FAILURE);
     }
-    answered(rt, changes_text(rt.alloc(), &made.told))
+    answered(rt, Ok(text))
 }
 
 fn run(rt: &HostRuntime) -> io::Result<ExitCode> {

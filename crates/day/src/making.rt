@@ -16,15 +16,12 @@ ghost use Rattle.day.specs.Reports.{AcceptedFor, KeepsPromise, added, last_of, p
 use crate::listing::list_told;
 use changes::{Change, Changed, change_day, read_changes};
 use fewest::fewest_rounds;
-use meetings::{MeetingList, Refusal, read};
+use meetings::{MOST, MOST_MEETINGS, MeetingList, Refusal, read};
 use plans::write_plan;
 use std::alloc::Global;
 
-// The most numbers that are given out. No day has more rounds than meetings, so there are no more rounds either.
-const MOST_MEETINGS: usize = 4000;
-
-// The most entries of the rows of a side: so many rounds for each of 120 parties.
-const MOST_ENTRIES: usize = 120 * MOST_MEETINGS;
+// The most entries of the rows of a side. No day has more rounds than meetings.
+const MOST_ENTRIES: usize = MOST as usize * MOST_MEETINGS;
 
 // A slice to be lent. What it holds does not matter.
 fn lent(heap: Global, long: usize) -> Result<Vec<u16>, Refusal>

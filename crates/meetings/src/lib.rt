@@ -2,6 +2,7 @@
 #![tactic(auto)]
 
 mod held;
+mod limits;
 mod list;
 mod memory;
 mod numbers;
@@ -10,6 +11,7 @@ mod refusal;
 mod theorems;
 mod writing;
 
+pub use limits::{MOST, MOST_MEETINGS};
 pub use list::MeetingList;
 pub use numbers::{Group, Meeting, MeetingId, Round, Side, Station};
 pub use reading::{Source, read};

@@ -4,15 +4,11 @@ ghost use Rattle.meetings.specs.Bytes.{limit, count, party_at, meeting_at, meeti
 ghost use Rattle.meetings.specs.Held.{contents};
 ghost use Rattle.meetings.specs.Refusals.{outcome, Answers, place_of_limit};
 
+use crate::limits::{MOST, MOST_MEETINGS};
 use crate::list::MeetingList;
 use crate::numbers::{Group, Meeting, Station};
 use crate::refusal::{Limit, Refusal};
 use std::alloc::Global;
-
-// The most groups, stations and rooms, and the most meetings.
-const MOST: u8 = 120;
-
-const MOST_MEETINGS: u16 = 4000;
 
 // Where the meetings begin.
 const HEAD: usize = 5;
@@ -21,10 +17,11 @@ const HEAD: usize = 5;
 fn within_limits(number: u8, which: Limit) -> Result<u16, Refusal>
     ensures { outcome (λ x. x) result ≡ limit number (place_of_limit which) }
 {
+    let number = u16::from(number);
     if !(1..=MOST).contains(&number) {
         return Err(Refusal::OutOfLimits(which));
     }
-    Ok(u16::from(number))
+    Ok(number)
 }
 
 // How many meetings there are, from the low byte and the high one.
@@ -32,7 +29,7 @@ fn meeting_count(low: u8, high: u8) -> Result<u16, Refusal>
     ensures { outcome (λ x. x) result ≡ count low high }
 {
     let many = u16::from_le_bytes([low, high]);
-    if many > MOST_MEETINGS {
+    if usize::from(many) > MOST_MEETINGS {
         return Err(Refusal::TooManyMeetings);
     }
     Ok(many)

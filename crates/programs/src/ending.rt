@@ -4,7 +4,7 @@ ghost use Rattle.std.specs.Process.{exit_status};
 
 use meetings::Refusal;
 use std::fmt::Display;
-use std::io;
+use std::io::{self, ErrorKind};
 use std::process::ExitCode;
 
 // What went wrong outside: a sentence on standard error.
@@ -43,15 +43,23 @@ pub fn answered<D: Display + Drop>(
     }
 }
 
-// The status of a program that came to this end. What it could not write is told of on standard error, as far as that can be
-// written.
-pub fn ended(rt: &impl Eprint, program: &str, end: io::Result<ExitCode>) -> ExitCode
+// Want of memory is a refusal, and whatever else went wrong outside a sentence on standard error.
+fn tell(rt: &(impl Print + Eprint), program: &str, e: io::Error) -> io::Result<()> {
+    if e.kind() == ErrorKind::OutOfMemory {
+        println!(rt; "{}", Refusal::Memory)
+    } else {
+        eprintln!(rt; "{program}: {e}")
+    }
+}
+
+// The status of a program that came to this end. What went wrong is told, as far as that can be written.
+pub fn ended(rt: &(impl Print + Eprint), program: &str, end: io::Result<ExitCode>) -> ExitCode
     ensures { MatchResult end (λ e. result ≡ e) (λ _. exit_status result ≡ 1) }
 {
     match end {
         Ok(status) => status,
         Err(e) => {
-            let _ = eprintln!(rt; "{program}: {e}");
+            let _ = tell(rt, program, e);
             ExitCode::FAILURE
         }
     }

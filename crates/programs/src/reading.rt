@@ -4,7 +4,7 @@ ghost use Rattle.std.specs.Io.KnownBytes.{IsAtEnd};
 
 use std::alloc::Global;
 use std::fs::Files;
-use std::io::Read;
+use std::io::{ErrorKind, Read};
 use std::{fs, io};
 
 // All bytes that a source still gives.
@@ -18,7 +18,7 @@ pub fn rest_of<S: Read>(heap: Global, source: &mut S) -> io::Result<Vec<u8>>
 }
 
 // What was read of a path. Where it could not be read, none: a sentence on standard error says why, and that the file with `what` is
-// to be named.
+// to be named. Want of memory stays an error, since the file may well be there.
 pub fn read_or_none(
     rt: &impl Eprint,
     program: &str,
@@ -30,6 +30,7 @@ pub fn read_or_none(
 {
     match read {
         Ok(bytes) => Ok(Some(bytes)),
+        Err(e) if e.kind() == ErrorKind::OutOfMemory => Err(e),
         Err(e) => {
             eprintln!(rt; "{program}: cannot read {path}: {e}. Name the file with {what}.")?;
             Ok(None)

@@ -8,7 +8,7 @@ use Rattle.chains.specs.Partial.{Partial, round_of}
 use Rattle.placing.proofs.AllTurns.{still_unused}
 use Rattle.balance.specs.Sizes.{sizes_of}
 use Rattle.changes.specs.Days.{moved}
-use Rattle.changes.specs.OnBoard.{AreOut, CanPut, Noted}
+use Rattle.changes.specs.OnBoard.{AreOut, CanPut, CopiedFor}
 use Rattle.changes.proofs.CanMake.{can_note, can_put, newcomer_out, plan_now}
 use Rattle.changes.proofs.OneMade.{made_told, noted_for_next, rest_is, room_also, touched_each, touched_here}
 use Rattle.changes.proofs.making.make.Goals as goal
@@ -71,5 +71,5 @@ returns-clause-beside c =
         touched = record { empty = c.moved_on.ensures.forgotten.list; enough = omega (arith, c.moved_on.ensures.forgotten.among, c.make_again-looks.ensures.touched.among, c.requires.beside.room.touched.enough) };
       };
       sizes = sizes ∙ c.make_again-looks.ensures.counted ∙ ap (λ n. sizes_of n (rounds_on c.make_again-looks.new.board)) (c.deref_mut-4.ensures.len ∙ k.sizes.ok.0);
-      before = λ i. ap (λ l. round_of l i) rounds ∙ noted_for_next b.0 c.args.turn.change c.args.board.now c.note.new.board c.take_out_rest.new.board c.make_again-looks.new.board c.args.turn.from c.args.turn.to b.1 _ _ _ _ _ _ _ _ c.note.ensures.noted (rest_is _ _ _ _ _ _ _ _ _ _ refl c.deref.ensures.value c.take_out_rest.ensures.taken) _ _ _ c.make_again-looks.ensures.rule c.make_again-looks.ensures.touched c.requires.beside.room.touched.empty before long c.moved_on.new.before (subst (λ bs. Noted bs c.moved_on.new.before (rounds_on c.make_again-looks.new.board) (found_in c.make_again-looks.new.touched)) noted c.moved_on.ensures.noted) i;
+      before = λ i. ap (λ l. round_of l i) rounds ∙ noted_for_next b.0 c.args.turn.change c.args.board.now c.note.new.board c.take_out_rest.new.board c.make_again-looks.new.board c.args.turn.from c.args.turn.to b.1 _ _ _ _ _ _ _ _ c.note.ensures.noted (rest_is _ _ _ _ _ _ _ _ _ _ refl c.deref.ensures.value c.take_out_rest.ensures.taken) _ _ _ c.make_again-looks.ensures.rule c.make_again-looks.ensures.touched c.requires.beside.room.touched.empty before long c.moved_on.new.before (subst (λ bs. CopiedFor bs c.moved_on.new.before (rounds_on c.make_again-looks.new.board) (found_in c.make_again-looks.new.touched)) noted c.moved_on.ensures.noted) i;
     }
