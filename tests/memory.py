@@ -41,27 +41,30 @@ def outcome(program, whole, before, got, found):
 class Trial:
     """A program with its files, and what it answers where memory suffices."""
 
-    def __init__(self, folder, program, given):
-        self.folder, self.program = Path(folder), program
+    def __init__(self, folder, program, given, whole):
+        self.folder, self.program, self.whole = Path(folder), program, whole
         self.paths = [self.folder / f"given{i}" for i in range(len(given))]
         for path, data in zip(self.paths, given):
             path.write_bytes(data)
-        self.lines, _, self.files = wanted(program, given)
         self.seen, self.wrong = Counter(), 0
 
-    def run(self, name, old, limit=None, **environment):
+    def come_to(self, old, limit=None, **environment):
+        """A run, where these files were before: its status, what it printed, and the files after it."""
         outs = WRITTEN[self.program]
-        before = {out: b"as it was" for out in outs} if old else {}
         for out in outs:
             (self.folder / out).unlink(missing_ok=True)
-            if old:
-                (self.folder / out).write_bytes(before[out])
+        for out, data in old.items():
+            (self.folder / out).write_bytes(data)
         command = [TOP / "crates" / self.program / "out" / self.program, *self.paths, *outs]
         set_limit = limit and (lambda: resource.setrlimit(resource.RLIMIT_AS, (limit, limit)))
         done = subprocess.run(command, capture_output=True, timeout=20, cwd=self.folder, env=os.environ | environment, preexec_fn=set_limit)
-        got = done.returncode, done.stdout, done.stderr
         found = {path.name: path.read_bytes() for path in self.folder.iterdir() if not path.name.startswith(("given", "told"))}
-        came = outcome(self.program, (self.lines, self.files), before, got, found)
+        return (done.returncode, done.stdout, done.stderr), found
+
+    def run(self, name, old, limit=None, **environment):
+        before = {out: b"as it was" for out in WRITTEN[self.program]} if old else {}
+        got, found = self.come_to(before, limit, **environment)
+        came = outcome(self.program, self.whole, before, got, found)
         if limit and came is None and (got[0] == 127 or got[0] < 0) and found == before and got[1] == b"":
             came = "not loaded"
         self.seen[came] += 1
@@ -86,27 +89,49 @@ class Trial:
 
     def limit_space(self):
         """Limits the address space from the least that lets the program start to what suffices, and answers that in kilobytes."""
-        for many in range(1000, 40000, 20):
-            if self.run(f"{many} KB", many % 40 == 0, limit=many * 1024) == "answered":
+        for many in range(1000, 40000, 40):
+            if self.run(f"{many} KB", many % 80 == 0, limit=many * 1024) == "answered":
                 return many
         return None
 
 
+def full_day():
+    """4,000 meetings of 120 groups with 120 stations in one room, a row of changes, and no plan."""
+    meetings = [(i % 120, (i + i // 120) % 120) for i in range(4000)]
+    day = bytes([120, 120, 1]) + (4000).to_bytes(2, "little") + bytes(party for meeting in meetings for party in meeting)
+    return day, bytes([3, 1, 7, 0, 2])
+
+
+def told_by(folder, program, given):
+    """What a program answers with all memory: for the full day, which the rule of the tests is too slow for."""
+    trial = Trial(folder, program, given, None)
+    (status, lines, err), files = trial.come_to({})
+    assert (status, err) == (0, b""), (program, status, err)
+    return lines, files
+
+
+def days(folder):
+    """The days, and what each program answers."""
+    small = (*SMALL, wanted("plan", SMALL[:1])[2]["plan"])
+    school = [(TOP / "examples" / f"school.{kind}").read_bytes() for kind in ("day", "changes", "plan")]
+    full = (*full_day(), told_by(folder, "plan", full_day()[:1])[1]["plan"])
+    for name, (day, row, plan), by_rule in (("a small day", small, True), ("the school day", school, True), ("a full day", full, False)):
+        for program, given in (("plan", [day]), ("day", [day, row]), ("checker", [day, plan]), ("sheet", [day, plan])):
+            yield name, program, given, wanted(program, given)[::2] if by_rule else told_by(folder, program, given)
+
+
 def main():
     wrong = 0
-    school = [(TOP / "examples" / f"school.{kind}").read_bytes() for kind in ("day", "changes", "plan")]
     with tempfile.TemporaryDirectory() as folder, tempfile.TemporaryDirectory() as built:
         library = str(Path(built) / "failing.so")
         subprocess.run(["cc", "-shared", "-fPIC", "-O1", "-o", library, TOP / "tests" / "failing.c", "-ldl"], check=True)
-        small = (*SMALL, wanted("plan", SMALL[:1])[2]["plan"])
-        for name, (day, row, plan) in (("a small day", small), ("the school day", school)):
-            for program, given in (("plan", [day]), ("day", [day, row]), ("checker", [day, plan]), ("sheet", [day, plan])):
-                trial = Trial(folder, program, given)
-                many, least = trial.fail_each(library), trial.limit_space()
-                print(f"{program}, {name}: {many} requests, answered from {least} KB on; {dict(trial.seen)}")
-                wrong += trial.wrong
-                for path in Path(folder).iterdir():
-                    path.unlink()
+        for name, program, given, whole in days(folder):
+            trial = Trial(folder, program, given, whole)
+            many, least = trial.fail_each(library), trial.limit_space()
+            print(f"{program}, {name}: {many} requests, answered from {least} KB on; {dict(trial.seen)}", flush=True)
+            wrong += trial.wrong
+            for path in Path(folder).iterdir():
+                path.unlink()
     sys.exit(1 if wrong else 0)
 
 
