@@ -1,6 +1,6 @@
-// Loaded before the C library by tests/memory.sh: fails the request for memory whose number is in FAIL_AT, counted from 1, and
-// those after it too where FAIL_ALL is set. How many requests there were is told in the file that FAIL_TOLD names. What the
-// programs are built with asks by malloc and realloc alone.
+// Loaded before the C library by tests/memory.py, or linked: fails the request for memory whose number is in FAIL_AT, counted from
+// 1, and those after it too where FAIL_ALL is set. How many requests there were is told in the file that FAIL_TOLD names. What
+// the programs are built with asks by malloc and realloc alone.
 #define _GNU_SOURCE
 #include <dlfcn.h>
 #include <errno.h>
@@ -8,11 +8,19 @@
 #include <stdio.h>
 #include <stdlib.h>
 
-static long requests;
+static long requests, at = -1;
+static int all;
+
+// Counts from 1 again, and has another request fail, none if `number` is 0. Answers how many there were.
+long fail_at(long number, int those_after_it) {
+    long were = requests;
+    requests = 0;
+    at = number;
+    all = those_after_it;
+    return were;
+}
 
 static int fails(void) {
-    static long at = -1;
-    static int all;
     if (at < 0) {
         const char *text = getenv("FAIL_AT");
         at = text ? atol(text) : 0;

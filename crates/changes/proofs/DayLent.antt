@@ -10,7 +10,7 @@ use Rattle.meetings.specs.Held.{contents}
 use Rattle.meetings.specs.Lists.{Contents, Proper}
 use Rattle.meetings.specs.Refusals.{Answers, accepted, then}
 use Rattle.meetings.proofs.Holds.{proper}
-use Rattle.meetings.proofs.Outcomes.{accepted_from_ok, then_accepted}
+use Rattle.meetings.proofs.Outcomes.{accepted_from_ok, accepted_same, then_accepted}
 use Rattle.fewest.specs.Rounds.{fewest, largest}
 use Rattle.chains.specs.declared.shapes.Shape.{Shape}
 use Rattle.chains.specs.Rows.{Beyond, Holds}
@@ -102,8 +102,5 @@ day_promised l cs xs xs' gs gs' ss ss' (Ok ts) answer lent =
     let d = contents l in
     let one = then_accepted (tested (whole d) cs 0 []) (λ t. then (lent_shape t.0.list (max (fewest d) (largest t.1)) (length xs) (length gs) (length ss)) (λ z. accepted (told (first_day d) cs))) (vec_items ts) (accepted_from_ok vec_items ts answer) in
     let two = then_accepted (lent_shape one.0.0.list (max (fewest d) (largest one.0.1)) (length xs) (length gs) (length ss)) (λ z. accepted (told (first_day d) cs)) (vec_items ts) one.2 in
-    row_promised d cs (proper l) (only_what_can (whole d) cs 0 [] one.0 one.1) (vec_items ts) xs xs' gs gs' ss ss' (sym (same _ _ two.2)) lent
-  where
-    same : (a b : List Changed) → accepted a ≡ accepted b → a ≡ b
-    same a b e = cc
+    row_promised d cs (proper l) (only_what_can (whole d) cs 0 [] one.0 one.1) (vec_items ts) xs xs' gs gs' ss ss' (sym (accepted_same _ _ two.2)) lent
 day_promised l cs xs xs' gs gs' ss ss' (Err e) answer lent = tt

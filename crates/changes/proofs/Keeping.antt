@@ -17,7 +17,8 @@ use Rattle.changes.specs.Numbered.{Numbered, can, changed, left, whole}
 use Rattle.changes.specs.Registered.{Agrees, ByChange, registered}
 use Rattle.changes.proofs.FirstDay.{left_whole}
 use Rattle.changes.proofs.Left.{left_proper}
-use Rattle.changes.proofs.LeftChanged.{added_apart, can_add, drop_here, dropped_apart, dropped_many, left_added, long_changed, proper_changed}
+use Rattle.changes.proofs.LeftChanged.{added_apart, can_add, drop_here, dropped_apart, dropped_many, left_added, long_changed}
+use Rattle.changes.proofs.ProperAfter.{proper_after}
 
 -- a register that says what is proper
 kept_as : (v : Numbered) (o : Register) → registered o ≡ v → Proper v.list → length v.there ≡ length v.list.meetings → Counts (left v) o.tally → o.many ≡ length (left v).meetings → Agrees o
@@ -71,7 +72,7 @@ module _ (n : Register) (kept : Agrees n) where
         let apart = added_apart v kept.each m may in
         record {
           is = is;
-          kept = kept_as (changed v (Add m)) o is (proper_changed v kept.each (Add m) kept.proper may) (long_changed v kept.each (Add m))
+          kept = kept_as (changed v (Add m)) o is (proper_after v (Add m) kept.proper may) (long_changed v kept.each (Add m))
               (counts_more (left v) (left (changed v (Add m))) n.tally o.tally m apart kept.tally groups stations)
               (many ∙ ap (λ x. x + 1) kept.many ∙ sym (length-append (left v).meetings (m ∷ [])) ∙ sym (ap length (left_added v kept.each m)));
         }
@@ -104,7 +105,7 @@ module _ (n : Register) (kept : Agrees n) where
         let v = registered n in
         record {
           is = same;
-          kept = kept_as (changed v (Drop i)) o same (proper_changed v kept.each (Drop i) kept.proper may) (long_changed v kept.each (Drop i))
+          kept = kept_as (changed v (Drop i)) o same (proper_after v (Drop i) kept.proper may) (long_changed v kept.each (Drop i))
               (counts_fewer (left (changed v (Drop i))) (left v) n.tally o.tally m apart kept.tally groups stations)
               (omega (arith, many, kept.many, dropped_many v kept.each i may));
         }

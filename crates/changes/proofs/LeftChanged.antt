@@ -16,6 +16,7 @@ use Rattle.changes.specs.declared.change.Change.{Change}
 use Rattle.changes.specs.declared.change.Change.TheVariants.{Add, Drop, GetRoom, GiveRoomUp}
 use Rattle.changes.specs.Numbered.{Numbered, can, changed, left, those}
 use Rattle.changes.specs.Rows.{CanAll, changed_all}
+use Rattle.changes.proofs.ProperAfter.{proper_after}
 
 module _ {A : Type 0} where
   -- a marked element at the end
@@ -69,15 +70,6 @@ can_add v m h =
     each g t Groups = g
     each g t Stations = t
 
-exist_pushed : (n k : ℕ) (ms : List Meeting) (m : Meeting) → ((s : Side) → party s m < parties s n k) → Exist n k ms → Exist n k (ms ++ m ∷ [])
-exist_pushed n k ms m one each s i h =
-    ⊎_elim
-    (λ before. rw (get_or_append_left ms (m ∷ []) nobody i before) (each s i before))
-    (λ from.
-    let last : i - length ms ≡ 0 = omega (arith, length-append ms (m ∷ [])) in
-    rw (get_or-append_right ms (m ∷ []) (length ms) i nobody refl from, last) (one s))
-    (cases_lt i (length ms))
-
 module _ (v : Numbered) (long : length v.there ≡ length v.list.meetings) where
   -- as many marks as meetings
   pub long_changed : (c : Change) → length (changed v c).there ≡ length (changed v c).list.meetings
@@ -85,37 +77,6 @@ module _ (v : Numbered) (long : length v.there ≡ length v.list.meetings) where
   long_changed (Drop i) = length-set v.there i.0 false ∙ long
   long_changed GiveRoomUp = long
   long_changed GetRoom = long
-
-  -- a proper list stays proper
-  pub proper_changed : (c : Change) → Proper v.list → can v c ≡ true → Proper (changed v c).list
-  proper_changed (Add m) proper h =
-      let may = can_add v m h in
-      record {
-        groups_within = proper.groups_within;
-        stations_within = proper.stations_within;
-        rooms_within = proper.rooms_within;
-        few = omega (arith, length-append v.list.meetings (m ∷ []), may.few);
-        exist = exist_pushed v.list.groups v.list.stations v.list.meetings m may.exist proper.exist;
-      }
-  proper_changed (Drop i) proper h = proper
-  proper_changed GiveRoomUp proper h =
-      let more = ltb-true 1 v.list.rooms h in
-      record {
-        groups_within = proper.groups_within;
-        stations_within = proper.stations_within;
-        rooms_within = (omega arith, omega (arith, proper.rooms_within.1));
-        few = proper.few;
-        exist = proper.exist;
-      }
-  proper_changed GetRoom proper h =
-      let fewer = ltb-true v.list.rooms most h in
-      record {
-        groups_within = proper.groups_within;
-        stations_within = proper.stations_within;
-        rooms_within = (omega arith, omega arith);
-        few = proper.few;
-        exist = proper.exist;
-      }
 
   -- an added meeting is at the end
   pub left_added : (m : Meeting) → (left (changed v (Add m))).meetings ≡ (left v).meetings ++ m ∷ []
@@ -149,4 +110,4 @@ module _ (v : Numbered) (long : length v.there ≡ length v.list.meetings) where
 pub made_proper : (v : Numbered) (cs : List Change) → length v.there ≡ length v.list.meetings → Proper v.list → CanAll v cs → Proper (changed_all v cs).list
 made_proper v [] long proper may = proper
 made_proper v (c ∷ cs) long proper may =
-    made_proper (changed v c) cs (long_changed v long c) (proper_changed v long c proper may.0) may.1
+    made_proper (changed v c) cs (long_changed v long c) (proper_after v c proper may.0) may.1

@@ -9,7 +9,7 @@ use Rattle.meetings.specs.Bytes.{meeting_at}
 use Rattle.meetings.specs.Refusals.{Answers, Outcome, accepted, refused, then}
 use Rattle.meetings.specs.RoundTrips.{AllBytes}
 use Rattle.meetings.proofs.Accepted.{Met, meeting_accepted}
-use Rattle.meetings.proofs.Outcomes.{accepted_from_ok, then_accepted, unless_refused}
+use Rattle.meetings.proofs.Outcomes.{accepted_from_ok, accepted_same, never_accepted, only_if, then_accepted, unless_refused}
 use Rattle.changes.specs.declared.change.Change.{Change}
 use Rattle.changes.specs.declared.change.Change.TheVariants.{Add, Drop, GetRoom, GiveRoomUp}
 use Rattle.changes.specs.Bytes.{bytes_of_change, bytes_of_changes, change_at, changes_at, id_at, next_at, read_row, width_of}
@@ -22,16 +22,6 @@ tested_as_made v [] i rs h = ap (λ l. accepted (v, l)) (sym (append-nil rs))
 tested_as_made v (c ∷ cs) i rs h =
     let rest = tested_as_made (changed v c) cs (i + 1) (rs ++ rounds_for (changed v c) ∷ []) h.1 in
     rw h.0 (rest ∙ ap (λ l. accepted (changed_all (changed v c) cs, l)) (append_assoc rs (rounds_for (changed v c) ∷ []) (rounds_after (changed v c) cs)))
-
-pub never : {T : Type 0} {x : T} {a b : ℕ} → refused a b ≡ accepted x → ⊥
-never e = let z : ◌≡◌ {A = ℕ} 0 1 = cc e in omega arith
-
-pub same : {T : Type 0} (x y : T) → accepted x ≡ accepted y → x ≡ y
-same x y e = cc
-
-only_if : {T : Type 0} (b : Bool) (number place : ℕ) (o : Outcome T) (y : T) → cond b o (refused number place) ≡ accepted y → (b ≡ true) × (o ≡ accepted y)
-only_if true number place o y e = (refl, e)
-only_if false number place o y e = absurd (never e)
 
 -- a row that is accepted can be made
 pub only_what_can : OnlyWhatCan
@@ -64,7 +54,7 @@ module _ (bs : List ℕ) (at : ℕ) (byte : AllBytes bs) (here : at < length bs)
   stood_add : (c : Change) → get_or bs at 0 ≡ 0 → then (meeting_at bs (at + 1) n k) (λ m. accepted (Add m)) ≡ accepted c → Stood c
   stood_add c kind e =
       let m = then_accepted (meeting_at bs (at + 1) n k) (λ m. accepted (Add m)) c e in
-      subst Stood (same _ _ m.2) (stood_meeting m.0 kind (meeting_accepted bs (at + 1) n k m.0 m.1))
+      subst Stood (accepted_same _ _ m.2) (stood_meeting m.0 kind (meeting_accepted bs (at + 1) n k m.0 m.1))
 
   stood_drop : (c : Change) → get_or bs at 0 ≡ 1 → then (id_at bs (at + 1)) (λ i. accepted (Drop i)) ≡ accepted c → Stood c
   stood_drop c kind e =
@@ -74,11 +64,11 @@ module _ (bs : List ℕ) (at : ℕ) (byte : AllBytes bs) (here : at < length bs)
       let two : at + 1 + 1 ≡ at + 2 = omega arith in
       let low : (get_or bs (at + 1) 0 + 256 * get_or bs (at + 2) 0) % 256 ≡ get_or bs (at + 1) 0 = omega (arith, byte (at + 1)) in
       let high : (get_or bs (at + 1) 0 + 256 * get_or bs (at + 2) 0) / 256 ≡ get_or bs (at + 2) 0 = omega (arith, byte (at + 1)) in
-      rw (← same _ _ i.2, ← same _ _ is.1) (three_bytes bs at (omega arith) ∙ (rw (kind, two, low, high) refl))
+      rw (← accepted_same _ _ i.2, ← accepted_same _ _ is.1) (three_bytes bs at (omega arith) ∙ (rw (kind, two, low, high) refl))
 
   stood_one : (c d : Change) (x : ℕ) → get_or bs at 0 ≡ x → bytes_of_change c ≡ x ∷ [] → width_of c ≡ 1 → accepted c ≡ accepted d → Stood d
   stood_one c d x kind bytes wide e =
-      rw (← same _ _ e, wide) (drop_more bs at 0 here ∙ ap (λ y. (y ∷ []) ++ drop (at + 1) bs) kind ∙ ap (λ l. l ++ drop (at + 1) bs) (sym bytes))
+      rw (← accepted_same _ _ e, wide) (drop_more bs at 0 here ∙ ap (λ y. (y ∷ []) ++ drop (at + 1) bs) kind ∙ ap (λ l. l ++ drop (at + 1) bs) (sym bytes))
 
   -- the kind is one of four
   kinds : (x : ℕ) (a b g f : Bool) → get_or bs at 0 ≡ x → (a ≡ true → x ≡ 0) → (b ≡ true → x ≡ 1) → (g ≡ true → x ≡ 2) → (f ≡ true → x ≡ 3) → (c : Change) → cond a (then (meeting_at bs (at + 1) n k) (λ m. accepted (Add m))) (cond b (then (id_at bs (at + 1)) (λ i. accepted (Drop i))) (cond g (accepted GiveRoomUp) (cond f (accepted GetRoom) (refused 6 z)))) ≡ accepted c → Stood c
@@ -86,7 +76,7 @@ module _ (bs : List ℕ) (at : ℕ) (byte : AllBytes bs) (here : at < length bs)
   kinds x false true g f is none one two three c e = stood_drop c (is ∙ one refl) e
   kinds x false false true f is none one two three c e = stood_one GiveRoomUp c 2 (is ∙ two refl) refl refl e
   kinds x false false false true is none one two three c e = stood_one GetRoom c 3 (is ∙ three refl) refl refl e
-  kinds x false false false false is none one two three c e = absurd (never e)
+  kinds x false false false false is none one two three c e = absurd (never_accepted e)
 
   pub change_accepted : (c : Change) → change_at bs at n k z ≡ accepted c → Stood c
   change_accepted c e =
@@ -103,7 +93,7 @@ record Said (v : Numbered) (bs : List ℕ) (at : ℕ) (came cs : List Change) : 
 said_none : (v : Numbered) (bs : List ℕ) (at : ℕ) (came cs : List Change) → length bs ≤ at → accepted came ≡ accepted cs → Said v bs at came cs
 said_none v bs at came cs ends e = record {
   rest = [];
-  whole = sym (same _ _ e) ∙ sym (append-nil came);
+  whole = sym (accepted_same _ _ e) ∙ sym (append-nil came);
   can = tt;
   bytes = drop_all at bs ends;
 }
@@ -127,7 +117,7 @@ pub next_accepted : (v : Numbered) (bs : List ℕ) (at z : ℕ) (c : Change) →
 next_accepted v bs at z c e =
     let one = then_accepted (change_at bs at v.list.groups v.list.stations z) (λ c. cond (can v c) (accepted c) (refused 6 z)) c e in
     let may = only_if (can v one.0) 6 z (accepted one.0) c one.2 in
-    (one.1 ∙ may.1, ap (can v) (sym (same one.0 c may.1)) ∙ may.0)
+    (one.1 ∙ may.1, ap (can v) (sym (accepted_same one.0 c may.1)) ∙ may.0)
 
 changes_accepted : (left : ℕ) (v : Numbered) (bs : List ℕ) (at : ℕ) (came cs : List Change) → AllBytes bs → length bs ≤ at + left → changes_at v bs left at came ≡ accepted cs → Said v bs at came cs
 changes_accepted zero v bs at came cs byte enough e = said_none v bs at came cs (omega arith) e

@@ -4,11 +4,12 @@ use Rattle.std.proofs.lemmas.List.{length-append}
 use Rattle.std.proofs.lemmas.Bool.{cases_lt, le-leb, lt-leb}
 use Rattle.meetings.specs.Refusals.{Outcome, accepted, refused, then}
 use Rattle.meetings.specs.RoundTrips.{AllBytes}
+use Rattle.meetings.proofs.Outcomes.{never_accepted}
 use Rattle.changes.specs.declared.change.Change.{Change}
 use Rattle.changes.specs.Bytes.{bytes_of_change, bytes_of_changes, changes_at, next_at, width_of}
 use Rattle.changes.specs.Numbered.{Numbered, can, changed, rounds_for, tested}
 use Rattle.changes.specs.Rows.{CanAll, FirstThatCannot, ReadAsFirst, RefusedAsFirst, changed_all}
-use Rattle.changes.proofs.RowAccepted.{change_accepted, never, next_accepted}
+use Rattle.changes.proofs.RowAccepted.{change_accepted, next_accepted}
 
 -- a change that cannot be made, behind one that can
 first_after : (v : Numbered) (c : Change) (cs : List Change) (p : ℕ) → can v c ≡ true → FirstThatCannot (changed v c) cs p → FirstThatCannot v (c ∷ cs) (p + 1)
@@ -33,7 +34,7 @@ first_refused false v c cs i number place o may rest e =
 
 -- A ROW IS REFUSED for the first change that cannot be made
 pub refused_as_first : RefusedAsFirst
-refused_as_first v [] i rs number place e = absurd (never (sym e))
+refused_as_first v [] i rs number place e = absurd (never_accepted (sym e))
 refused_as_first v (c ∷ cs) i rs number place e =
     first_refused (can v c) v c cs i number place (tested (changed v c) cs (i + 1) (rs ++ rounds_for (changed v c) ∷ [])) refl
     (refused_as_first (changed v c) cs (i + 1) (rs ++ rounds_for (changed v c) ∷ []) number place) e
@@ -79,7 +80,7 @@ then_refused (refused n p) next number place P first second e =
     first (rw (same_number, same_place) refl)
 
 changes_stopped : (left : ℕ) (v : Numbered) (bs : List ℕ) (at : ℕ) (came : List Change) (number place : ℕ) → AllBytes bs → changes_at v bs left at came ≡ refused number place → Stopped v bs at (length came) number place
-changes_stopped zero v bs at came number place byte e = absurd (never (sym e))
+changes_stopped zero v bs at came number place byte e = absurd (never_accepted (sym e))
 changes_stopped (suc left) v bs at came number place byte e =
     ⊎_elim
     (λ here.
@@ -91,7 +92,7 @@ changes_stopped (suc left) v bs at came number place byte e =
     let longer : length (came ++ c ∷ []) ≡ length came + 1 = length-append came (c ∷ []) in
     stopped_later v bs at (length came) number place c next.1 (change_accepted bs at byte here v.list.groups v.list.stations (length came) c next.0) (rw longer at more))
     (rw (lt-leb (length bs) at here) at e))
-    (λ ends. absurd (never (sym (rw (le-leb (length bs) at ends) at e))))
+    (λ ends. absurd (never_accepted (sym (rw (le-leb (length bs) at ends) at e))))
     (cases_lt at (length bs))
 
 -- BYTES ARE REFUSED for the first of them that say no change that can be made

@@ -9,7 +9,7 @@ use Rattle.meetings.specs.declared.refusal.Refusal.TheVariants.{Memory}
 use Rattle.meetings.specs.Bytes.{meeting_at}
 use Rattle.meetings.specs.Lists.{Proper}
 use Rattle.meetings.specs.Refusals.{Answers, IfMemory, accepted}
-use Rattle.meetings.proofs.Outcomes.{accepted_from_ok}
+use Rattle.meetings.proofs.Outcomes.{accepted_from_ok, accepted_same, never_accepted}
 use Rattle.meetings.proofs.Written.{party_written}
 use Rattle.changes.specs.declared.change.Change.{Change}
 use Rattle.changes.specs.declared.change.Change.TheVariants.{Add, Drop, GetRoom, GiveRoomUp}
@@ -18,7 +18,6 @@ use Rattle.changes.specs.Numbered.{Numbered, can, changed}
 use Rattle.changes.specs.Rows.{CanAll, SaysRow, WrittenAsBytes, WrittenThenRead}
 use Rattle.changes.proofs.LeftChanged.{can_add}
 use Rattle.changes.proofs.ReadTurns.{one_less, past_end}
-use Rattle.changes.proofs.RowAccepted.{never, same}
 
 -- what stands at a place, and behind it
 module _ (bs : List ℕ) (at : ℕ) where
@@ -125,10 +124,10 @@ written_as_bytes v cs proper may =
 -- of what is answered
 pub written_answered : (v : Numbered) (cs : List Change) (o : Result (Vec ℕ Global) Refusal) → Answers vec_items o (written_row cs) → Proper v.list → CanAll v cs → IfMemory o (λ bs. SaysRow v cs bs.items)
 written_answered v cs (Ok bs) answer proper may =
-    let is : bytes_of_changes cs ≡ bs.items = same _ _ (sym (written_as_bytes v cs proper may) ∙ accepted_from_ok vec_items bs answer) in
+    let is : bytes_of_changes cs ≡ bs.items = accepted_same _ _ (sym (written_as_bytes v cs proper may) ∙ accepted_from_ok vec_items bs answer) in
     record { bytes = sym is; back = ap (read_row v) (sym is) ∙ written_then_read v cs may }
 written_answered v cs (Err e) answer proper may =
-    ⊎_elim (λ none. same_error e Memory none) (λ e. absurd (never (e ∙ written_as_bytes v cs proper may))) answer
+    ⊎_elim (λ none. same_error e Memory none) (λ e. absurd (never_accepted (e ∙ written_as_bytes v cs proper may))) answer
   where
     same_error : (e f : Refusal) → ◌≡◌ {A = Result (Vec ℕ Global) Refusal} (Err e) (Err f) → e ≡ f
     same_error e f h = cc

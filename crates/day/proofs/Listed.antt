@@ -13,7 +13,8 @@ use Rattle.changes.specs.Numbered.{Numbered, can, changed, whole}
 use Rattle.changes.specs.Rows.{CanAll, changed_all}
 use Rattle.changes.proofs.DayLent.{last_list}
 use Rattle.changes.proofs.DayMade.{groups_all, stations_all}
-use Rattle.changes.proofs.LeftChanged.{can_add, long_changed, proper_changed}
+use Rattle.changes.proofs.LeftChanged.{can_add, long_changed}
+use Rattle.changes.proofs.ProperAfter.{proper_after}
 use Rattle.day.specs.Lists.{AllInBytes, InByte, all_added, given_up, got}
 use Rattle.day.specs.Reports.{last_of}
 use Rattle.day.proofs.Last.{stands_last}
@@ -53,7 +54,7 @@ in_byte v GetRoom proper h = tt
 all_in_bytes : (v : Numbered) (cs : List Change) → length v.there ≡ length v.list.meetings → Proper v.list → CanAll v cs → AllInBytes cs
 all_in_bytes v [] long proper may = tt
 all_in_bytes v (c ∷ cs) long proper may =
-    (in_byte v c proper may.0, all_in_bytes (changed v c) cs (long_changed v long c) (proper_changed v long c proper may.0) may.1)
+    (in_byte v c proper may.0, all_in_bytes (changed v c) cs (long_changed v long c) (proper_after v c proper may.0) may.1)
 
 module _ (d : Contents) (cs : List Change) (proper : Proper d) (may : CanAll (whole d) cs) where
   pub added_in_bytes : AllInBytes cs

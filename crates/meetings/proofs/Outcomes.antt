@@ -11,11 +11,22 @@ accepted_from_ok means x {o} a = ⊎_elim (λ e. absurd (never e)) (λ e. sym e)
     never : ◌≡◌ {A = Result _ Refusal} (Ok x) (Err Memory) → ⊥
     never e = let z : ◌≡◌ {A = ℕ} 0 1 = cc in omega arith
 
+-- nothing is refused and accepted
+pub never_accepted : {T : Type 0} {x : T} {number place : ℕ} → refused number place ≡ accepted x → ⊥
+never_accepted e = let z : ◌≡◌ {A = ℕ} 0 1 = cc e in omega arith
+
+pub accepted_same : {T : Type 0} (x y : T) → accepted x ≡ accepted y → x ≡ y
+accepted_same x y e = cc
+
 -- what a rule in two steps accepts, both steps accepted
 pub then_accepted : {S T : Type 0} (o : Outcome S) (next : S → Outcome T) (y : T) → then o next ≡ accepted y → (x : S) × (o ≡ accepted x) × (next x ≡ accepted y)
 then_accepted (accepted x) next y e = (x, refl, e)
-then_accepted (refused number place) next y e = absurd (let z : ◌≡◌ {A = ℕ} 0 1 = cc in omega arith)
+then_accepted (refused number place) next y e = absurd (never_accepted e)
 
 pub unless_refused : {T : Type 0} (b : Bool) (number place : ℕ) (o : Outcome T) (y : T) → cond b (refused number place) o ≡ accepted y → (b ≡ false) × (o ≡ accepted y)
-unless_refused true number place o y e = absurd (let z : ◌≡◌ {A = ℕ} 0 1 = cc in omega arith)
+unless_refused true number place o y e = absurd (never_accepted e)
 unless_refused false number place o y e = (refl, e)
+
+pub only_if : {T : Type 0} (b : Bool) (number place : ℕ) (o : Outcome T) (y : T) → cond b o (refused number place) ≡ accepted y → (b ≡ true) × (o ≡ accepted y)
+only_if true number place o y e = (refl, e)
+only_if false number place o y e = absurd (never_accepted e)

@@ -5,8 +5,7 @@ use Rattle.std.proofs.lemmas.List.{drop-drop, drop_all, drop_more, get_or-drop}
 use Rattle.meetings.proofs.Accepted.{two_bytes}
 use Rattle.meetings.specs.Refusals.{accepted, refused}
 use Rattle.meetings.specs.RoundTrips.{AllBytes}
-use Rattle.meetings.proofs.Outcomes.{unless_refused}
-use Rattle.changes.proofs.RowAccepted.{same}
+use Rattle.meetings.proofs.Outcomes.{accepted_same, unless_refused}
 use Rattle.plans.specs.Bytes.{ReadThenWritten, WrittenThenRead, bytes_of_numbers, bytes_of_plan, long_for, number_at, numbers_at, read_plan}
 use Rattle.plans.specs.Given.{Given}
 
@@ -39,7 +38,7 @@ read_accepted many bs p e =
     let whole : Given = record { rounds = number_at bs 0; at = numbers_at bs many 2 } in
     let first = unless_refused (ltb (length bs) (long_for many)) 1 (length bs) (cond (ltb (long_for many) (length bs)) (refused 1 (long_for many)) (accepted whole)) p e in
     let second = unless_refused (ltb (long_for many) (length bs)) 1 (long_for many) (accepted whole) p first.1 in
-    (omega (arith, ltb-false _ _ first.0, ltb-false _ _ second.0), sym (same _ _ second.1))
+    (omega (arith, ltb-false _ _ first.0, ltb-false _ _ second.0), sym (accepted_same _ _ second.1))
 
 pub read_then_written : ReadThenWritten
 read_then_written many bs p byte e =

@@ -6,10 +6,10 @@ use Rattle.meetings.specs.declared.numbers.Side.{Side}
 use Rattle.meetings.specs.declared.numbers.Side.TheVariants.{Groups, Stations}
 use Rattle.meetings.specs.Lists.{Contents}
 use Rattle.meetings.specs.Refusals.{accepted, refused, then}
+use Rattle.meetings.proofs.Outcomes.{never_accepted}
 use Rattle.fewest.specs.Plans.{in_round}
 use Rattle.chains.specs.Partial.{round_of}
 use Rattle.changes.specs.Days.{has_round}
-use Rattle.changes.proofs.RowAccepted.{never}
 use Rattle.changes.proofs.Standing.{round_has}
 use Rattle.plans.specs.Checking.{Verdict, alone, as_long, both_alone, checked, each, fine, in_rooms, in_rounds, is_fewest}
 use Rattle.plans.specs.Faults.{Fault, FirstFault, NotAfter, clash, crowded, no_such_round, not_fewest, too_few, too_many, turn_of}
@@ -167,7 +167,7 @@ module _ (d : Contents) (r : ℕ) (xs : List ℕ) where
       (λ rooms. fewest_last (rooms_past nine rooms) (is_fewest d r xs) refl))))
 
   tells_refused : (o : Verdict) → Tells o → (number place : ℕ) → o ≡ refused number place → FirstFault d r xs number place
-  tells_refused (accepted x) tells number place e = absurd (never (sym e))
+  tells_refused (accepted x) tells number place e = absurd (never_accepted (sym e))
   tells_refused (refused n p) tells number place e =
       let same = same_refusal n p number place e in
       rw (← same.0, ← same.1) tells
@@ -191,7 +191,7 @@ module _ (d : Contents) (r : ℕ) (xs : List ℕ) where
 
   pub no_fault_if_fine : (o : Verdict) → Tells o → o ≡ fine → (n t p : ℕ) → Fault d r xs n t p → ⊥
   no_fault_if_fine (accepted x) none e = none
-  no_fault_if_fine (refused number place) first e = absurd (never e)
+  no_fault_if_fine (refused number place) first e = absurd (never_accepted e)
 
 -- A PLAN IS REFUSED for its first fault, and just for that
 pub refuses_first : RefusesFirst

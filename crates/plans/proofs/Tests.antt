@@ -3,7 +3,7 @@
 use Rattle.std.proofs.Common.{◌≡◌, ℕ, zero, suc, ◌+◌, ◌<◌, ◌≤◌, Bool, true, false, sym, refl, ap, ◌∙◌, ⊎_elim, arith}
 use Rattle.std.proofs.lemmas.Bool.{cases_eq}
 use Rattle.meetings.specs.Refusals.{Outcome, accepted, refused, then}
-use Rattle.changes.proofs.RowAccepted.{never}
+use Rattle.meetings.proofs.Outcomes.{never_accepted}
 use Rattle.plans.specs.Checking.{Verdict, each, fine, refused_if}
 
 pub same_refusal : {T : Type 0} (a b number place : ℕ) → ◌≡◌ {A = Outcome T} (refused a b) (refused number place) → (a ≡ number) × (b ≡ place)
@@ -12,10 +12,10 @@ same_refusal a b number place e = (cc e, cc e)
 -- a test by a Bool
 pub if_refused : (b : Bool) (number place n p : ℕ) → refused_if b number place ≡ refused n p → (b ≡ true) × (number ≡ n) × (place ≡ p)
 if_refused true number place n p e = let same = same_refusal number place n p e in (refl, same.0, same.1)
-if_refused false number place n p e = absurd (never (sym e))
+if_refused false number place n p e = absurd (never_accepted (sym e))
 
 pub if_fine : (b : Bool) (number place : ℕ) → refused_if b number place ≡ fine → b ≡ false
-if_fine true number place e = absurd (never e)
+if_fine true number place e = absurd (never_accepted e)
 if_fine false number place e = refl
 
 -- two tests
@@ -25,7 +25,7 @@ then_refused (refused n p) next number place P first second e = first e
 
 pub then_fine : (o : Verdict) (next : Unit {0} → Verdict) → then o next ≡ fine → (o ≡ fine) × (next tt ≡ fine)
 then_fine (accepted x) next e = (refl, e)
-then_fine (refused n p) next e = absurd (never e)
+then_fine (refused n p) next e = absurd (never_accepted e)
 
 -- so many tests from i on: the first that refuses
 pub record Stops (test : ℕ → Verdict) (n i number place : ℕ) : Type 0 where
@@ -36,7 +36,7 @@ pub record Stops (test : ℕ → Verdict) (n i number place : ℕ) : Type 0 wher
   pub before : (k : ℕ) → i ≤ k → k < at → test k ≡ fine
 
 pub each_refused : (test : ℕ → Verdict) (n i number place : ℕ) → each test n i ≡ refused number place → Stops test n i number place
-each_refused test zero i number place e = absurd (never (sym e))
+each_refused test zero i number place e = absurd (never_accepted (sym e))
 each_refused test (suc n) i number place e =
     then_refused (test i) (λ _. each test n (suc i)) number place (Stops test (suc n) i number place)
     (λ here. record { at = i; from = omega arith; below = omega arith; says = here; before = λ k from below. absurd (omega arith) })

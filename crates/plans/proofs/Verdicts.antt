@@ -9,9 +9,8 @@ use Rattle.meetings.specs.Refusals.{Answers, accepted, number_of, place_of, then
 use Rattle.meetings.specs.RoundTrips.{AllBytes}
 use Rattle.meetings.proofs.Accepted.{read_then_written}
 use Rattle.meetings.proofs.Holds.{proper}
-use Rattle.meetings.proofs.Outcomes.{accepted_from_ok, unless_refused}
+use Rattle.meetings.proofs.Outcomes.{accepted_from_ok, accepted_same, unless_refused}
 use Rattle.fewest.specs.Plans.{none}
-use Rattle.changes.proofs.RowAccepted.{same}
 use Rattle.plans.specs.Bytes.{long_for, read_plan}
 use Rattle.plans.specs.Checking.{checked, checked_bytes}
 use Rattle.plans.specs.Faults.{PlanOrFault}
@@ -38,7 +37,7 @@ rounds_fit : (many : ℕ) (bs : List ℕ) (p : Given) → AllBytes bs → read_p
 rounds_fit many bs p byte e =
     let long = unless_refused (ltb (length bs) (long_for many)) 1 (length bs) _ p e in
     let short = unless_refused (ltb (long_for many) (length bs)) 1 (long_for many) _ p long.1 in
-    let is : get_or bs 0 0 + 256 * get_or bs 1 0 ≡ p.rounds = ap (λ (p : Given). p.rounds) (same _ _ short.1) in
+    let is : get_or bs 0 0 + 256 * get_or bs 1 0 ≡ p.rounds = ap (λ (p : Given). p.rounds) (accepted_same _ _ short.1) in
     omega (arith, is, byte 0, byte 1)
 
 -- of the list and the plan that bytes say

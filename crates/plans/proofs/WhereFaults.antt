@@ -5,11 +5,11 @@ use Rattle.meetings.specs.declared.numbers.Side.{Side}
 use Rattle.meetings.specs.declared.numbers.Side.TheVariants.{Groups, Stations}
 use Rattle.meetings.specs.Lists.{Contents}
 use Rattle.meetings.specs.Refusals.{place_of_clash, refused}
+use Rattle.meetings.proofs.Outcomes.{never_accepted}
 use Rattle.fewest.specs.Plans.{in_round}
 use Rattle.fewest.specs.Rounds.{fewest}
 use Rattle.chains.specs.Partial.{round_of}
 use Rattle.changes.specs.Days.{has_round}
-use Rattle.changes.proofs.RowAccepted.{never}
 use Rattle.plans.specs.Bytes.{long_for}
 use Rattle.plans.specs.Checking.{alone, as_long, fine, in_rooms, in_rounds, is_fewest}
 use Rattle.plans.specs.Faults.{Fault, clash, crowded, no_such_round, not_fewest, too_few, too_many, turn_of}
@@ -30,7 +30,7 @@ long_refused many long number place e =
 pub long_fine : (many long : ℕ) → as_long many long ≡ fine → long ≡ many
 long_fine many long e =
     ⊎_elim
-    (λ few. absurd (never (rw (lt-ltb long many few) at e)))
+    (λ few. absurd (never_accepted (rw (lt-ltb long many few) at e)))
     (λ enough.
     let no_more = if_fine (ltb many long) 1 (long_for many) (rw (le-ltb long many enough) at e) in
     ⊎_elim (λ more. absurd (both_ways (ltb many long) no_more (lt-ltb many long more))) (λ le. omega arith) (cases_lt many long))
@@ -38,12 +38,12 @@ long_fine many long e =
 
 -- the test of the number of rounds
 only_where : (b : Bool) (r number place : ℕ) → cond b fine (refused 10 r) ≡ refused number place → (b ≡ false) × (10 ≡ number) × (r ≡ place)
-only_where true r number place e = absurd (never (sym e))
+only_where true r number place e = absurd (never_accepted (sym e))
 only_where false r number place e = let same = same_refusal 10 r number place e in (refl, same.0, same.1)
 
 only_fine : (b : Bool) (r : ℕ) → cond b fine (refused 10 r) ≡ fine → b ≡ true
 only_fine true r e = refl
-only_fine false r e = absurd (never e)
+only_fine false r e = absurd (never_accepted e)
 
 module _ (d : Contents) (r : ℕ) (xs : List ℕ) where
   pub fewest_refused : (number place : ℕ) → is_fewest d r xs ≡ refused number place → (10 ≡ number) × (r ≡ place) × (r ≢ fewest (kept d xs))

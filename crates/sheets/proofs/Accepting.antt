@@ -5,8 +5,7 @@ use Rattle.meetings.specs.Bytes.{read_list}
 use Rattle.meetings.specs.Refusals.{Answers, accepted, then}
 use Rattle.meetings.specs.RoundTrips.{AllBytes}
 use Rattle.meetings.proofs.Accepted.{read_then_written}
-use Rattle.meetings.proofs.Outcomes.{accepted_from_ok, then_accepted}
-use Rattle.changes.proofs.RowAccepted.{same}
+use Rattle.meetings.proofs.Outcomes.{accepted_from_ok, accepted_same, then_accepted}
 use Rattle.plans.specs.Bytes.{bytes_of_plan}
 use Rattle.plans.specs.Checking.{checked_bytes, fine}
 use Rattle.plans.proofs.MadeWritten.{planned_written}
@@ -18,7 +17,7 @@ told_accepted day plan t byte said is =
     let read = then_accepted (read_list day) (λ d. accepted (told_of d)) t said in
     let d = read.0 in
     let written = planned_written day d (read_then_written day d byte read.1).0 read.1 in
-    let bytes : plan ≡ bytes_of_plan (plan_told (told_of d)) = is ∙ ap (λ u. bytes_of_plan (plan_told u)) (sym (same (told_of d) t read.2)) in
+    let bytes : plan ≡ bytes_of_plan (plan_told (told_of d)) = is ∙ ap (λ u. bytes_of_plan (plan_told u)) (sym (accepted_same (told_of d) t read.2)) in
     ap (checked_bytes day) bytes ∙ written
 
 pub made_accepted : (day : List ℕ) → AllBytes day → (o : Result Made Refusal) → Answers (λ m. told m.report) o (then (read_list day) (λ d. accepted (told_of d))) → IfOk o (λ m. vec_items m.plan ≡ bytes_of_plan (plan_told (told m.report))) → IfOk o (λ m. checked_bytes day (vec_items m.plan) ≡ fine)
