@@ -10,7 +10,7 @@ use Rattle.meetings.specs.Refusals.{Answers, IfMemory, accepted, then}
 use Rattle.meetings.specs.RoundTrips.{AllBytes}
 use Rattle.meetings.proofs.Accepted.{read_then_written}
 use Rattle.meetings.proofs.Holds.{proper}
-use Rattle.meetings.proofs.Outcomes.{accepted_from_ok}
+use Rattle.meetings.proofs.Outcomes.{accepted_from_ok, accepted_same}
 use Rattle.meetings.proofs.Written.{written_then_read}
 use Rattle.changes.specs.declared.change.Change.{Change}
 use Rattle.changes.specs.declared.changed.Changed.{Changed}
@@ -20,7 +20,6 @@ use Rattle.changes.specs.Rows.{CanAll}
 use Rattle.changes.specs.Told.{OfRow, answer_of, told}
 use Rattle.changes.proofs.LentEnough.{lent_enough}
 use Rattle.changes.proofs.RowAccepted.{tested_as_made}
-use Rattle.changes.proofs.RowAccepted as row
 use Rattle.plans.specs.Bytes.{bytes_of_plan}
 use Rattle.plans.specs.Checking.{checked_bytes, fine}
 use Rattle.plans.proofs.OnlyMemory.{only_memory}
@@ -39,7 +38,7 @@ module _ (l : MeetingList) (cs : List Change) (can : CanAll (whole (contents l))
       ∙ ap (λ o. then o (λ t. accepted (told (first_day (contents l)) cs))) (tested_as_made (whole (contents l)) cs 0 [] can)
 
   pub told_exactly : (o : Result (Vec Changed Global) Refusal) → Answers vec_items o (answer_of (contents l) cs lr lg ls) → IfMemory o (λ ts. vec_items ts ≡ told (first_day (contents l)) cs)
-  told_exactly (Ok ts) answer = row.same _ _ (sym (accepted_from_ok vec_items ts answer) ∙ answered)
+  told_exactly (Ok ts) answer = accepted_same _ _ (sym (accepted_from_ok vec_items ts answer) ∙ answered)
   told_exactly (Err e) answer = only_memory vec_items e _ _ answered answer
 
 -- the plan of a row is accepted
