@@ -20,6 +20,7 @@ use Rattle.changes.specs.Rows.{CanAll}
 use Rattle.changes.specs.Told.{OfRow, answer_of, told}
 use Rattle.changes.proofs.LentEnough.{lent_enough}
 use Rattle.changes.proofs.RowAccepted.{tested_as_made}
+use Rattle.changes.proofs.RowAccepted as row
 use Rattle.plans.specs.Bytes.{bytes_of_plan}
 use Rattle.plans.specs.Checking.{checked_bytes, fine}
 use Rattle.plans.proofs.OnlyMemory.{only_memory}

@@ -10,11 +10,8 @@ ghost use Rattle.day.specs.Reports.{last_of};
 
 use crate::making::numbers;
 use changes::Change;
-use meetings::{MeetingList, Refusal, write};
+use meetings::{HEAD, MeetingList, Refusal, write};
 use std::alloc::Global;
-
-// Where the meetings of a list begin.
-const HEAD: usize = 5;
 
 // How many rooms a row gets.
 fn got(changes: &[Change]) -> usize

@@ -14,7 +14,7 @@ mod writing;
 pub use limits::{MOST, MOST_MEETINGS};
 pub use list::MeetingList;
 pub use numbers::{Group, Meeting, MeetingId, Round, Side, Station};
-pub use reading::{Source, read};
+pub use reading::{HEAD, Source, read};
 pub use refusal::{Lent, Limit, Refusal};
 pub use theorems::{
     read_as_written, refusals_told_apart, refused_for_the_first_fault, written_as_read,

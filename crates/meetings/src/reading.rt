@@ -11,7 +11,7 @@ use crate::refusal::{Limit, Refusal};
 use std::alloc::Global;
 
 // Where the meetings begin.
-const HEAD: usize = 5;
+pub const HEAD: usize = 5;
 
 // How many groups, stations or rooms there are.
 fn within_limits(number: u8, which: Limit) -> Result<u16, Refusal>
