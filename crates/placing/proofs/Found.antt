@@ -1,5 +1,5 @@
 -- The first pair of entries of two rows that passes a test is at the lowest round that does. Assumes nothing.
-use Rattle.std.proofs.Common.{◌≡◌, ℕ, ◌<◌, ◌≤◌, Bool, true, false, cond, ltb, Some, None, List, length, get_or, take, sym, refl, ap, ◌∙◌, arith}
+use Rattle.std.proofs.Common.{◌≡◌, ℕ, zero, suc, ◌<◌, ◌≤◌, Bool, true, false, cond, ltb, Some, None, List, [], ◌∷◌, length, get_or, take, sym, refl, ap, ◌∙◌, arith}
 use Rattle.std.proofs.lemmas.Bool.{ltb-true, ltb-false}
 use Rattle.std.proofs.lemmas.List.{get_or-take, length-take-le}
 use Rattle.std.proofs.lemmas.List.Sums.{fails_before_first, passes_at_first}
@@ -32,3 +32,10 @@ found_lowest p xs ys n hx hy =
     position_lowest (0, 0) p (λ c. p (get_or xs c 0, get_or ys c 0)) (take n (zip xs ys)) n
     (length-take-le n (zip xs ys) (omega (arith, length-zip xs ys)))
     (λ c h. ap p (get_or-take n (zip xs ys) c (0, 0) h ∙ get_or-zip xs ys c (0, 0) (omega arith) (omega arith)))
+
+-- two rows that are cut to one length, and their pairs cut to it
+pub cut_alike : (n : ℕ) (xs ys : List ℕ) → zip (take n xs) (take n ys) ≡ take n (zip xs ys)
+cut_alike zero xs ys = refl
+cut_alike (suc n) [] ys = refl
+cut_alike (suc n) (x ∷ xs) [] = refl
+cut_alike (suc n) (x ∷ xs) (y ∷ ys) = ap (λ es. (x, y) ∷ es) (cut_alike n xs ys)

@@ -21,16 +21,23 @@ pub fn lowest_common_free(one: &[u16], other: &[u16], rounds: u16) -> Option<Rou
     first_common_free(one, other, rounds).map(|round| Round(round as u16))
 }
 
-// The first place, of so many, at which neither row has a meeting. Entries are compared as they lie in the lent slices.
+// The first place at which neither row has a meeting. Entries are compared as they lie in the lent slices.
+fn first_free_pair(one: &[u16], other: &[u16]) -> Option<usize>
+    ensures { result ≡ position (λ e. (e.0 == none) && e.1 == none) (zip one.now other.now) }
+{
+    one.iter()
+        .zip(other)
+        .position(|(one, other)| *one == NONE && *other == NONE)
+}
+
+// The same of so many places. Both rows are cut to them first, and not their pairs: so one counter serves for both.
 fn first_common_free(one: &[u16], other: &[u16], rounds: u16) -> Option<usize>
     requires one { rounds ≤ length one.now }
     requires other { rounds ≤ length other.now }
     ensures { result ≡ position (λ e. (e.0 == none) && e.1 == none) (take rounds (zip one.now other.now)) }
 {
-    one.iter()
-        .zip(other)
-        .take(usize::from(rounds))
-        .position(|(one, other)| *one == NONE && *other == NONE)
+    let many = usize::from(rounds);
+    first_free_pair(&one[..many], &other[..many])
 }
 
 // The lowest round in which the group and the station of a meeting are both free, if there is one.

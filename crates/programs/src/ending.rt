@@ -4,7 +4,7 @@ ghost use Rattle.std.specs.Process.{exit_status};
 
 use meetings::Refusal;
 use std::fmt::Display;
-use std::io::{self, ErrorKind};
+use std::io::{self, ErrorKind, Write};
 use std::process::ExitCode;
 
 // What went wrong outside: a sentence on standard error.
@@ -27,16 +27,13 @@ pub fn refused(rt: &impl Print, refusal: Refusal) -> io::Result<ExitCode>
     Ok(ExitCode::FAILURE)
 }
 
-// An answer is printed as it is, or its refusal.
-pub fn answered<D: Display + Drop>(
-    rt: &impl Print,
-    answer: Result<D, Refusal>,
-) -> io::Result<ExitCode>
+// An answer is printed as it is, or its refusal. It is written at once, since `print!` writes a thousand bytes at a time.
+pub fn answered(rt: &impl Print, answer: Result<String, Refusal>) -> io::Result<ExitCode>
     ensures { IfOk result (λ e. MatchResult answer (λ _. exit_status e ≡ 0) (λ _. exit_status e ≡ 1)) }
 {
     match answer {
         Ok(text) => {
-            print!(rt; "{text}")?;
+            io::writer(rt).write_all(text.as_bytes())?;
             Ok(ExitCode::SUCCESS)
         }
         Err(refusal) => refused(rt, refusal),
