@@ -95,6 +95,10 @@ class Trial:
         return None
 
 
+def school():
+    return [(TOP / "examples" / f"school.{kind}").read_bytes() for kind in ("day", "changes", "plan")]
+
+
 def full_day():
     """4,000 meetings of 120 groups with 120 stations in one room, a row of changes, and no plan."""
     meetings = [(i % 120, (i + i // 120) % 120) for i in range(4000)]
@@ -113,18 +117,33 @@ def told_by(folder, program, given):
 def days(folder):
     """The days, and what each program answers."""
     small = (*SMALL, wanted("plan", SMALL[:1])[2]["plan"])
-    school = [(TOP / "examples" / f"school.{kind}").read_bytes() for kind in ("day", "changes", "plan")]
     full = (*full_day(), told_by(folder, "plan", full_day()[:1])[1]["plan"])
-    for name, (day, row, plan), by_rule in (("a small day", small, True), ("the school day", school, True), ("a full day", full, False)):
+    for name, (day, row, plan), by_rule in (("a small day", small, True), ("the school day", school(), True), ("a full day", full, False)):
         for program, given in (("plan", [day]), ("day", [day, row]), ("checker", [day, plan]), ("sheet", [day, plan])):
             yield name, program, given, wanted(program, given)[::2] if by_rule else told_by(folder, program, given)
 
 
-def main():
+def fail_calls(folder, built):
+    """The two calls that lend slices, on the small day and on the school day. Answers on how many days they do something else."""
+    subprocess.run(["rt", "lib"], cwd=TOP / "crates" / "calls", capture_output=True, check=True)
+    kit = Path(subprocess.run(["rt", "doc"], capture_output=True, text=True, check=True).stdout.strip()).parent
+    libraries = [TOP / "crates" / "calls" / "out" / "libcalls.a", kit / "c" / "liblibc_c.a", "-ldl"]
+    calls = Path(built) / "calls"
+    subprocess.run(["cc", "-O1", "-o", calls, TOP / "tests" / "calls.c", TOP / "tests" / "failing.c", *libraries], check=True)
     wrong = 0
+    for name, given in (("a small day", SMALL), ("the school day", school()[:2])):
+        for i, data in enumerate(given):
+            (Path(folder) / f"given{i}").write_bytes(data)
+        print(f"{name}:", flush=True)
+        wrong += subprocess.run([calls, Path(folder) / "given0", Path(folder) / "given1"]).returncode
+    return wrong
+
+
+def main():
     with tempfile.TemporaryDirectory() as folder, tempfile.TemporaryDirectory() as built:
         library = str(Path(built) / "failing.so")
         subprocess.run(["cc", "-shared", "-fPIC", "-O1", "-o", library, TOP / "tests" / "failing.c", "-ldl"], check=True)
+        wrong = fail_calls(folder, built)
         for name, program, given, whole in days(folder):
             trial = Trial(folder, program, given, whole)
             many, least = trial.fail_each(library), trial.limit_space()
