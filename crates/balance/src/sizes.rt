@@ -45,9 +45,10 @@ pub(crate) fn first_of(sizes: &[u16], size: u16) -> Option<usize>
     sizes.iter().position(|other| *other == size)
 }
 
-// The least of these numbers, if there are any.
+// The least of these numbers, 0 where there are none.
 pub(crate) fn least_of(numbers: &[u16]) -> u16
-    ensures { Least numbers.now result }
+    ensures least { Least numbers.now result }
+    ensures nothing { length numbers.now ≡ 0 → result ≡ 0 }
 {
     numbers.iter().copied().min().unwrap_or(0)
 }
