@@ -15,7 +15,7 @@ use Rattle.chains.proofs.Members.{held_cases, none_held, once_from_fresh}
 use Rattle.changes.specs.declared.change.Change.{Change}
 use Rattle.changes.specs.declared.change.Change.TheVariants.{Add, Drop, GetRoom, GiveRoomUp}
 use Rattle.changes.specs.Days.{Day, has_round, numbered}
-use Rattle.changes.specs.Making.{dropped, grown, noted, taken_out}
+use Rattle.changes.specs.Making.{grown, noted, taken_out}
 use Rattle.changes.specs.Numbered.{can, changed, list_after}
 use Rattle.changes.specs.OnBoard.{CanNote, newcomer}
 use Rattle.changes.specs.Waiting.{is_there}

@@ -1,14 +1,14 @@
 -- What a change leaves is a proper list with a mark for each meeting; an added meeting comes behind those that there are, and a
 -- dropped one goes from among them. So a tally of those that there are stays one. Assumes nothing.
-use Rattle.std.proofs.Common.{◌≡◌, ℕ, zero, suc, ◌+◌, ◌<◌, Bool, true, false, ◌&&◌, eqb, ltb, List, [], ◌∷◌, ◌++◌, length, get_or, set, count_by, refl, ap, ◌∙◌, ◌-◌, ⊎_elim, arith}
+use Rattle.std.proofs.Common.{◌≡◌, ℕ, zero, suc, ◌+◌, ◌<◌, Bool, true, false, ◌&&◌, eqb, ltb, List, [], ◌∷◌, ◌++◌, length, get_or, set, count_by, refl, ap, ◌∙◌, ⊎_elim, arith}
 use Rattle.std.proofs.lemmas.Bool.{and_parts, both_ways, cases_lt, ltb-true}
-use Rattle.std.proofs.lemmas.List.{get_or_append_left, get_or-append_right, get_or_past, length-append, length-set}
+use Rattle.std.proofs.lemmas.List.{get_or_past, length-append, length-set}
 use Rattle.std.proofs.lemmas.List.Sums.{sum_by-append, sum_by-cons}
 use Rattle.meetings.specs.declared.numbers.Meeting.{Meeting}
 use Rattle.meetings.specs.declared.numbers.MeetingId.{MeetingId}
 use Rattle.meetings.specs.declared.numbers.Side.{Side}
 use Rattle.meetings.specs.declared.numbers.Side.TheVariants.{Groups, Stations}
-use Rattle.meetings.specs.Lists.{Exist, Proper, most, most_meetings, nobody, parties, party}
+use Rattle.meetings.specs.Lists.{Exist, Proper, most_meetings, nobody, parties, party}
 use Rattle.fewest.specs.Counting.{one_if}
 use Rattle.fewest.specs.Rounds.{meetings_of}
 use Rattle.fewest.proofs.OneCounted.{OneApart, one_pushed}

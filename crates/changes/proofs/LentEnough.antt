@@ -5,21 +5,18 @@ use Rattle.std.proofs.lemmas.List.{length-replicate}
 use Rattle.std.proofs.lemmas.Nat.{le-div}
 use Rattle.meetings.specs.Lists.{Contents, Proper, most_meetings}
 use Rattle.meetings.specs.Refusals.{Outcome, accepted, refused, then}
-use Rattle.meetings.specs.RoundTrips.{AllBytes}
 use Rattle.fewest.specs.Plans.{none}
 use Rattle.fewest.specs.Rounds.{fewest, largest}
 use Rattle.chains.specs.Shapes.{width}
 use Rattle.chains.proofs.Fitting.{fitting_accepted}
 use Rattle.balance.proofs.LentEnough.{fewest_below}
 use Rattle.changes.specs.declared.change.Change.{Change}
-use Rattle.changes.specs.Bytes.{read_row}
 use Rattle.changes.specs.Days.{first_day}
 use Rattle.changes.specs.Numbered.{Numbered, can, changed, rounds_for, tested, whole}
 use Rattle.changes.specs.Told.{answer_of, told}
 use Rattle.changes.proofs.Left.{rounds_below}
 use Rattle.changes.proofs.LeftChanged.{long_changed}
 use Rattle.changes.proofs.ProperAfter.{groups_kept, proper_after, stations_kept}
-use Rattle.changes.proofs.RowAccepted.{read_then_written, tested_as_made}
 
 largest_pushed : (m : ℕ) (xs : List ℕ) (x : ℕ) → largest xs ≤ m → x ≤ m → largest (xs ++ x ∷ []) ≤ m
 largest_pushed m [] x h new = omega arith

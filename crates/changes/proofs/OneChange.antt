@@ -2,7 +2,6 @@
 -- again and the rounds are evened out, by allowed steps; who is named by none of these keeps the round. Assumes nothing.
 use Rattle.std.proofs.Common.{◌≡◌, ℕ, ◌<◌, ◌≤◌, true, false, cond, ltb, ◌⊎◌, inl, inr, List, length, sym, ap, ◌∙◌, subst, ⊎_elim, arith}
 use Rattle.std.proofs.lemmas.Bool.{cases_Bool, cases_eq, cases_lt, cond-false, cond-true, le-ltb, lt-ltb}
-use Rattle.std.proofs.lemmas.Bool.Decides.{nat_tests}
 use Rattle.meetings.specs.Lists.{Exist, Proper}
 use Rattle.fewest.specs.Plans.{none}
 use Rattle.chains.specs.Chains.{holds}
@@ -13,7 +12,7 @@ use Rattle.balance.specs.Evening.{even_steps}
 use Rattle.balance.specs.Sizes.{far, size}
 use Rattle.balance.specs.Statements.{Evened}
 use Rattle.changes.specs.declared.change.Change.{Change}
-use Rattle.changes.specs.Days.{Day, Stands, has_round, numbered, rounds_of}
+use Rattle.changes.specs.Days.{Day, Stands, numbered, rounds_of}
 use Rattle.changes.specs.Making.{after, again_steps, made_again, noted, put_each_steps, put_waiting, start_of, taken_out, waiting}
 use Rattle.changes.specs.Numbered.{Numbered, can, changed, rounds_for}
 use Rattle.changes.specs.Statements.{ChangeStands, PutsAnew}

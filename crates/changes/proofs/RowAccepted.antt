@@ -6,7 +6,7 @@ use Rattle.std.proofs.lemmas.Bool.{cases_lt, eqb-true, le-leb, leb-false, lt-leb
 use Rattle.meetings.specs.declared.numbers.Meeting.{Meeting}
 use Rattle.meetings.specs.declared.refusal.Refusal.{Refusal}
 use Rattle.meetings.specs.Bytes.{meeting_at}
-use Rattle.meetings.specs.Refusals.{Answers, Outcome, accepted, refused, then}
+use Rattle.meetings.specs.Refusals.{Answers, accepted, refused, then}
 use Rattle.meetings.specs.RoundTrips.{AllBytes}
 use Rattle.meetings.proofs.Accepted.{Met, meeting_accepted}
 use Rattle.meetings.proofs.Outcomes.{accepted_from_ok, accepted_same, never_accepted, only_if, then_accepted, unless_refused}

@@ -2,7 +2,6 @@
 use Rattle.std.specs.List.Sorted.{IsNonDecreasing}
 use Rattle.std.specs.Prelude.{◌≡◌, ℕ, ◌-◌, ◌<◌, ◌≤◌, Bool, true, cond, ◌&&◌, ◌||◌, List, [], ◌∷◌, length, ◌==◌, nat_le, nat_lt, ⊤}
 use Rattle.meetings.specs.declared.numbers.Side.TheVariants.{Groups}
-use Rattle.meetings.specs.declared.numbers.Meeting.{Meeting}
 use Rattle.fewest.specs.Plans.{none}
 use Rattle.chains.specs.declared.found.Found.{Found}
 use Rattle.chains.specs.Finding.{Finds, found_in, with_new}

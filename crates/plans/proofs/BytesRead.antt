@@ -1,7 +1,7 @@
 -- Reading and writing a plan undo each other: each number is written by the two bytes that it is read from. Assumes nothing.
 use Rattle.std.proofs.Common.{◌≡◌, ℕ, zero, suc, ◌+◌, ◌*◌, ◌/◌, ◌%◌, ◌<◌, false, cond, ltb, List, [], ◌∷◌, length, get_or, drop, sym, refl, ap, ◌∙◌, arith}
 use Rattle.std.proofs.lemmas.Bool.{cond-false, le-ltb, ltb-false}
-use Rattle.std.proofs.lemmas.List.{drop-drop, drop_all, drop_more, get_or-drop}
+use Rattle.std.proofs.lemmas.List.{drop-drop, drop_all, get_or-drop}
 use Rattle.meetings.proofs.Accepted.{two_bytes}
 use Rattle.meetings.specs.Refusals.{accepted, refused}
 use Rattle.meetings.specs.RoundTrips.{AllBytes}

@@ -1,13 +1,13 @@
 -- The rows of a side have the meetings so far: at first none, a meeting with a round adds one entry, and one without adds none.
 -- Assumes nothing.
-use Rattle.std.proofs.Common.{◌≡◌, ℕ, ◌+◌, ◌*◌, ◌<◌, ◌≤◌, Option, Some, None, List, length, set, replicate, sym, refl, ⊎_elim, subst, arith}
+use Rattle.std.proofs.Common.{◌≡◌, ℕ, ◌+◌, ◌*◌, ◌<◌, ◌≤◌, Option, Some, None, List, length, set, sym, refl, ⊎_elim, subst, arith}
 use Rattle.std.proofs.lemmas.Bool.{cases_eq}
 use Rattle.meetings.specs.declared.numbers.Meeting.{Meeting}
 use Rattle.meetings.specs.declared.numbers.Side.{Side}
-use Rattle.meetings.specs.Lists.{Exist, other_side, parties}
+use Rattle.meetings.specs.Lists.{other_side}
 use Rattle.fewest.specs.Plans.{none}
 use Rattle.chains.specs.Partial.{party_of, round_of}
-use Rattle.plans.proofs.Entries.{all_alike, none_written, one_written}
+use Rattle.plans.proofs.Entries.{none_written, one_written}
 use Rattle.sheets.specs.Entered.{Entered, Has, Tells}
 
 module _ (ms : List Meeting) (xs : List ℕ) (s : Side) (i : ℕ) where
