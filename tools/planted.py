@@ -19,12 +19,13 @@ from pathlib import Path
 TOP = Path(__file__).resolve().parent.parent
 LEFT_OUT = shutil.ignore_patterns("out", "target", ".git", "__pycache__")
 # Of each edit rt tells in one line what came of it, and of a refused one where, and the goal that is not proved.
-TOLD = re.compile(r"^rt: must-fail ([a-z_]+)/([A-Za-z0-9_]+)\.edit: ([A-Z ]+|refused, as it must be)(?: \(only .*?\))?:? ?(.*)$")
+TOLD = re.compile(r"^rt: must-fail ([a-z_]+)/([A-Za-z0-9_]+)\.edit: ([A-Z ]+|refused, as it must be)( \(only [^)]*\))?:? ?(.*)$")
 # A check tells each goal that is not proved with its place, and each answer of a proof file that is refused.
 SAID = re.compile(r"^(note: )?(?:\./)?((?:src|proofs)/[^: ]+):(\d+):\d+: (.*)$")
 FUNCTION = re.compile(r"\s*(?:pub(?:\(crate\))? )?fn (\w+)")
 PLACE = re.compile(r"^(?:note: )?(?:\./)?((?:src|proofs|specs)/[^:]+)[:0-9]*: (.*)$")
-GOAL = re.compile(r"\(`([^`]*)`\)|error: `([^`]*)`:")
+# The goal stands in brackets, in a proof file before the message; rt cuts a long line off.
+GOAL = re.compile(r"\(`([a-z_][\w.-]*)(?:`\)|`?$)|error: `([\w.-]+)`")
 
 
 def edit_of(path):
@@ -141,7 +142,7 @@ def checked(copy, crate, paths):
     for path in paths:
         shutil.copy(path, kept)
     done = subprocess.run(["rt", "must-fail", crate], cwd=copy, capture_output=True, text=True)
-    return {m[2]: (m[3], m[4]) for m in map(TOLD.match, done.stdout.splitlines() + done.stderr.splitlines()) if m}
+    return {m[2]: (m[3] + (m[4] or ""), m[5]) for m in map(TOLD.match, done.stdout.splitlines() + done.stderr.splitlines()) if m}
 
 
 def shown(text):
@@ -155,8 +156,11 @@ def row(copy, crate, path, said):
     verdict, why = said.get(path.stem, ("NOT TRIED", ""))
     by = None
     if verdict.startswith("refused"):
-        place, goal = PLACE.match(why), GOAL.search(why)
+        place = PLACE.match(why)
+        goal = GOAL.search(place[2] if place else why)
         by = f"{place[1] if place else why}" + (f", `{goal[1] or goal[2]}`" if goal else f": {place[2]}" if place else "")
+        # what rt says of a refusal that shows little
+        by += verdict.removeprefix("refused, as it must be").removeprefix("refused")
     elif verdict == "NOT REFUSED":
         tests = refusing_tests(copy, crate, path)
         by = "only tests: " + ", ".join(tests) if tests else None
