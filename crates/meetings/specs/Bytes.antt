@@ -1,5 +1,5 @@
 -- The bytes of a list of meetings: what they say, or why they are refused, and how a list is written. Assumes nothing.
-use Rattle.std.specs.Prelude.{ℕ, zero, suc, ◌+◌, ◌*◌, ◌/◌, ◌%◌, cond, ◌||◌, List, [], ◌∷◌, ◌++◌, length, ◌==◌, nat_le, nat_lt, slice_index}
+use Rattle.std.specs.Prelude.{◌≡◌, ◌≤◌, ℕ, zero, suc, ◌+◌, ◌*◌, ◌/◌, ◌%◌, cond, ◌||◌, List, [], ◌∷◌, ◌++◌, length, ◌==◌, nat_le, nat_lt, slice_index}
 use Rattle.meetings.specs.declared.numbers.Meeting.{Meeting}
 use Rattle.meetings.specs.Lists.{Contents, meeting, most, most_meetings}
 use Rattle.meetings.specs.Refusals.{Outcome, accepted, refused, then}
@@ -35,6 +35,15 @@ read_list bs =
     (then (limit (slice_index bs 0) 0) (λ n. then (limit (slice_index bs 1) 1) (λ k. then (limit (slice_index bs 2) 2) (λ q.
     then (count (slice_index bs 3) (slice_index bs 4)) (λ many. then (meetings_at bs n k many 5 []) (λ ms.
     accepted (record { groups = n; stations = k; rooms = q; meetings = ms })))))))
+
+-- the head of the bytes is right, and a meeting stands behind it: only then is memory asked for
+pub record HasMeeting (bs : List ℕ) : Type 0 where
+  pub long : 7 ≤ length bs
+  pub groups : limit (slice_index bs 0) 0 ≡ accepted (slice_index bs 0)
+  pub stations : limit (slice_index bs 1) 1 ≡ accepted (slice_index bs 1)
+  pub rooms : limit (slice_index bs 2) 2 ≡ accepted (slice_index bs 2)
+  pub many : count (slice_index bs 3) (slice_index bs 4) ≡ accepted (slice_index bs 3 + 256 * slice_index bs 4)
+  pub some : 1 ≤ slice_index bs 3 + 256 * slice_index bs 4
 
 abbrev pub bytes_of_meetings : List Meeting → List ℕ
 bytes_of_meetings [] = []

@@ -1,6 +1,7 @@
 // Reading a list of meetings from its bytes.
-ghost use Rattle.std.specs.Prelude.{◌≡◌, ◌+◌, ◌^◌, ◌<◌, [], IfOk, vec_items};
-ghost use Rattle.meetings.specs.Bytes.{limit, count, party_at, meeting_at, meetings_at, read_list, bytes_of};
+ghost use Rattle.std.specs.Prelude.{◌≡◌, ◌+◌, ◌^◌, ◌<◌, ◌≤◌, [], Err, IfOk, length, vec_items};
+ghost use Rattle.meetings.specs.declared.refusal.Refusal.TheVariants.{Memory};
+ghost use Rattle.meetings.specs.Bytes.{HasMeeting, limit, count, party_at, meeting_at, meetings_at, read_list, bytes_of};
 ghost use Rattle.meetings.specs.Held.{contents};
 ghost use Rattle.meetings.specs.Refusals.{outcome, Answers, place_of_limit};
 
@@ -71,7 +72,8 @@ impl Source<'_> {
     // So many meetings, up to the end of the bytes.
     #[tactic(auto, using(crate::proofs::Turns::read_one))]
     fn meetings(&self, heap: Global, many: u16) -> Result<Vec<Meeting>, Refusal>
-        ensures { Answers vec_items result (meetings_at self.now.bytes.now self.now.groups self.now.stations many 5 []) }
+        ensures answer { Answers vec_items result (meetings_at self.now.bytes.now self.now.groups self.now.stations many 5 []) }
+        ensures memory { result ≡ Err Memory → (1 ≤ many) × (7 ≤ length self.now.bytes.now) }
     {
         let mut read = Vec::new(heap);
         // By number: chunks of two bytes would still need their places, and the last may be one byte.
@@ -91,6 +93,7 @@ impl Source<'_> {
 pub fn read(heap: Global, bytes: &[u8]) -> Result<MeetingList, Refusal>
     ensures answer { Answers contents result (read_list bytes.now) }
     ensures back { IfOk result (λ l. bytes_of (contents l) ≡ bytes.now) }
+    ensures memory { result ≡ Err Memory → HasMeeting bytes.now }
 {
     let [groups, stations, rooms, low, high, ..] = *bytes else {
         return Err(Refusal::Length(bytes.len()));
