@@ -20,4 +20,4 @@ pub use list::{List, Meeting};
 pub use planning::{plan, plan_bytes, Planned};
 pub use refusal::Refusal;
 pub use sizes::sizes_of;
-pub use text::{changes_text, plan_text};
+pub use text::{changes_text, plan_text, print};

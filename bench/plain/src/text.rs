@@ -6,6 +6,8 @@ use crate::refusal::Refusal;
 use crate::register::fewest_rounds;
 use crate::sizes::sizes_of;
 use std::fmt::{self, Write};
+use std::io;
+use std::process::ExitCode;
 
 /// The most numbers that are given out, and the most entries of the rows of a side.
 const MOST_MEETINGS: usize = 4000;
@@ -56,4 +58,18 @@ pub fn changes_text(day: &[u8], changes: &[u8]) -> Result<String, Refusal> {
         writeln!(text, "rounds {rounds} moved {moved}").expect("a string takes all");
     }
     Ok(text)
+}
+
+/// Prints an answer at once, or the line of its refusal, and answers the exit status.
+pub fn print(answer: Result<String, Refusal>) -> io::Result<ExitCode> {
+    match answer {
+        Ok(text) => {
+            io::Write::write_all(&mut io::stdout(), text.as_bytes())?;
+            Ok(ExitCode::SUCCESS)
+        }
+        Err(refusal) => {
+            println!("{refusal}");
+            Ok(ExitCode::FAILURE)
+        }
+    }
 }

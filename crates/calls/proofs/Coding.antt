@@ -1,5 +1,5 @@
 -- What is answered by a library's call, told in plain numbers. Assumes nothing.
-use Rattle.std.proofs.Common.{◌≡◌, ℕ, List, [], ◌∷◌, length, ◌-◌, suc, Some, slice_get, Global, Vec, Result, Ok, Err, MatchResult, vec_items, sym, refl, ap, ◌∙◌, subst, inl, inr, arith}
+use Rattle.std.proofs.Common.{◌≡◌, ℕ, List, [], ◌∷◌, length, ◌-◌, suc, Some, slice_get, Global, Vec, Result, Ok, Err, IfOk, MatchResult, vec_items, sym, refl, ap, ◌∙◌, subst, inl, inr, arith}
 use Rattle.meetings.specs.declared.refusal.Refusal.{Refusal}
 use Rattle.meetings.specs.declared.refusal.Refusal.TheVariants.{
   Length,
@@ -55,9 +55,18 @@ pub leaves_plan : (P Q : Type 0) (r : Result Planned Refusal) (a : PlanAnswer) �
 leaves_plan P Q r a is h =
     subst (λ (b : PlanAnswer). Leaves b.refusal P Q) (sym is) (leaves (λ p. p) coded_plan (λ b. b.refusal) P Q r (λ x. refl) (λ n at. refl) h)
 
+-- what holds of a plan that is answered holds of the numbers that are told
+pub promised_plan : (P : Planned → Type 0) (r : Result Planned Refusal) (a : PlanAnswer) → a ≡ coded_plan (outcome (λ p. p) r) → IfOk r P → a.refusal ≡ 0 → P (record { rounds = a.rounds; looks = a.looks })
+promised_plan P (Ok p) a is h zero = subst (λ (b : PlanAnswer). P (record { rounds = b.rounds; looks = b.looks })) (sym is) h
+promised_plan P (Err e) a is h zero = absurd (some_number e (sym (ap (λ (b : PlanAnswer). b.refusal) is) ∙ zero))
+
 pub leaves_row : (P Q : Type 0) (r : Result (Vec Changed Global) Refusal) (a : RowAnswer) → a ≡ coded_row (outcome vec_items r) → MatchResult r (λ _. P) (λ _. Q) → Leaves a.refusal P Q
 leaves_row P Q r a is h =
     subst (λ (b : RowAnswer). Leaves b.refusal P Q) (sym is) (leaves vec_items coded_row (λ b. b.refusal) P Q r (λ x. refl) (λ n at. refl) h)
+
+pub promised_row : (P : List Changed → Type 0) (r : Result (Vec Changed Global) Refusal) (a : RowAnswer) → a ≡ coded_row (outcome vec_items r) → IfOk r (λ v. P (vec_items v)) → a.refusal ≡ 0 → (ts : List Changed) × (a ≡ coded_row (accepted ts)) × P ts
+promised_row P (Ok v) a is h zero = (vec_items v, is, h)
+promised_row P (Err e) a is h zero = absurd (some_number e (sym (ap (λ (b : RowAnswer). b.refusal) is) ∙ zero))
 
 -- the last of a list
 pub last_said : (ts : List Changed) (t : Changed) → Some t ≡ slice_get ts (length ts - 1) → t ≡ last_of ts

@@ -1,8 +1,8 @@
 // The planning call.
-ghost use Rattle.std.specs.Prelude.{length};
+ghost use Rattle.std.specs.Prelude.{◌≡◌, length};
 ghost use Rattle.meetings.specs.Bytes.{read_list};
 ghost use Rattle.meetings.specs.Refusals.{then};
-ghost use Rattle.balance.specs.Lent.{OfBytes, PlannedLent, Unchanged, planned_of};
+ghost use Rattle.balance.specs.Lent.{OfBytes, PlannedLent, PlansDay, Unchanged, planned_of};
 ghost use Rattle.calls.specs.Coded.{Leaves, Says, coded_plan};
 
 use crate::answers::{PlanAnswer, plan_answer};
@@ -11,7 +11,7 @@ use std::alloc::Global;
 
 // Plans the day that the bytes say, as `balance::plan_bytes` does: the answer is what that answers, and the lent slices hold what
 // it leaves.
-#[tactic(auto, using(crate::proofs::Coding::says_plan, crate::proofs::Coding::leaves_plan))]
+#[tactic(auto, using(crate::proofs::Coding::says_plan, crate::proofs::Coding::leaves_plan, crate::proofs::Coding::promised_plan))]
 #[unsafe(no_mangle)]
 pub extern "C" fn cirdumash_plan(
     heap: Global,
@@ -22,6 +22,7 @@ pub extern "C" fn cirdumash_plan(
 ) -> PlanAnswer
     ensures answer { Says coded_plan result (then (read_list day.now) (λ d. planned_of d (length rounds.old) (length group_rows.old) (length station_rows.old))) }
     ensures lent { Leaves result.refusal (OfBytes day.now (λ d. PlannedLent d rounds.old rounds.new group_rows.old group_rows.new station_rows.old station_rows.new)) (Unchanged rounds.old rounds.new group_rows.old group_rows.new station_rows.old station_rows.new) }
+    ensures planned { result.refusal ≡ 0 → OfBytes day.now (λ d. PlansDay d rounds.new (record { rounds = result.rounds; looks = result.looks })) }
 {
     plan_answer(plan_bytes(heap, day, rounds, group_rows, station_rows))
 }

@@ -1,5 +1,5 @@
 //! `plain-day DAY CHANGES`: what `day DAY CHANGES` prints.
-use std::io::{self, Write};
+use std::io;
 use std::process::ExitCode;
 
 fn main() -> io::Result<ExitCode> {
@@ -10,14 +10,5 @@ fn main() -> io::Result<ExitCode> {
     };
     let day = std::fs::read(day)?;
     let changes = std::fs::read(changes)?;
-    match plain::changes_text(&day, &changes) {
-        Ok(text) => {
-            io::stdout().write_all(text.as_bytes())?;
-            Ok(ExitCode::SUCCESS)
-        }
-        Err(refusal) => {
-            println!("{refusal}");
-            Ok(ExitCode::FAILURE)
-        }
-    }
+    plain::print(plain::changes_text(&day, &changes))
 }

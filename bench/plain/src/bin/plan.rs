@@ -1,5 +1,5 @@
 //! `plain-plan DAY`: what `plan DAY` prints.
-use std::io::{self, Write};
+use std::io;
 use std::process::ExitCode;
 
 fn main() -> io::Result<ExitCode> {
@@ -8,14 +8,5 @@ fn main() -> io::Result<ExitCode> {
         return Ok(ExitCode::FAILURE);
     };
     let bytes = std::fs::read(day)?;
-    match plain::plan_text(&bytes) {
-        Ok(text) => {
-            io::stdout().write_all(text.as_bytes())?;
-            Ok(ExitCode::SUCCESS)
-        }
-        Err(refusal) => {
-            println!("{refusal}");
-            Ok(ExitCode::FAILURE)
-        }
-    }
+    plain::print(plain::plan_text(&bytes))
 }
