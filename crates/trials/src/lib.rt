@@ -1,16 +1,34 @@
-// Tests of the libraries: examples at each limit, and random lists beside a search over all plans. What other tests need is
-// public.
+// Tests of the libraries: worked examples, both sides of each limit, and random cases beside the rules written once more or beside a
+// search. What the tests rest on is proved.
 #![tactic(auto)]
 
+mod changing;
+mod checking;
+mod clashes;
 #[cfg(test)]
-mod bytes;
+mod day;
+mod entries;
+#[cfg(test)]
+mod lent;
 mod lists;
+#[cfg(test)]
+mod made_lists;
+#[cfg(test)]
+mod number;
+#[cfg(test)]
+mod planned;
+#[cfg(test)]
+mod planning;
+mod printing;
 mod random;
 #[cfg(test)]
+mod reading;
+#[cfg(test)]
 mod rounds;
+#[cfg(test)]
+mod rule;
+#[cfg(test)]
+mod same;
 mod search;
-mod stale;
-
-pub use lists::{bytes_of, list_of};
-pub use random::Random;
-pub use stale::noise;
+#[cfg(test)]
+mod told;

@@ -10,7 +10,7 @@ use std::alloc::{AllocError, Global};
 
 // The bytes of a list, its meetings given by their groups and their stations. A number of meetings that two bytes do not hold
 // is cut.
-pub fn bytes_of(
+pub(crate) fn bytes_of(
     heap: Global,
     groups: u8,
     stations: u8,
@@ -29,7 +29,7 @@ pub fn bytes_of(
 }
 
 // The list that these bytes say.
-pub fn list_of(
+pub(crate) fn list_of(
     heap: Global,
     groups: u8,
     stations: u8,

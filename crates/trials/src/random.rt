@@ -3,12 +3,12 @@ ghost use Rattle.std.specs.Prelude.{◌≡◌, ◌<◌};
 ghost use Rattle.trials.specs.Randoms.{after, drawn};
 
 #[derive(Drop)]
-pub struct Random {
+pub(crate) struct Random {
     state: u64,
 }
 
 impl Random {
-    pub fn new(seed: u32) -> Random
+    pub(crate) fn new(seed: u32) -> Random
         ensures { result.state ≡ seed }
     {
         Random {
@@ -17,7 +17,7 @@ impl Random {
     }
 
     // A number below the limit.
-    pub fn below(&mut self, limit: u8) -> u8
+    pub(crate) fn below(&mut self, limit: u8) -> u8
         requires { 0 < limit }
         ensures state { self.new.state ≡ after self.old.state }
         ensures drawn { result ≡ drawn (after self.old.state) limit }

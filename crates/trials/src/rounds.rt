@@ -1,6 +1,8 @@
 // The number of rounds: worked days, the largest lists, and random lists beside a search over all plans.
 use crate::lists::bytes_of;
+use crate::made_lists::spread;
 use crate::random::Random;
+use crate::same::same;
 use crate::search::searched;
 use fewest::{Tally, fewest_rounds};
 use meetings::{Refusal, read};
@@ -25,7 +27,7 @@ fn worked_days(rt: HostRuntime) -> Result<(), Fail> {
     ];
     for (meetings, rooms, rounds) in days {
         let bytes = bytes_of(rt.alloc(), 3, 3, rooms, meetings)?;
-        assert_eq!(rt; rounds_of(rt.alloc(), &bytes)?, rounds);
+        same(&rt, &rounds_of(rt.alloc(), &bytes)?, &rounds);
     }
     Ok(())
 }
@@ -35,9 +37,9 @@ fn each_party_is_counted(rt: HostRuntime) -> Result<(), Fail> {
     let bytes = bytes_of(rt.alloc(), 3, 4, 2, &[(0, 0), (2, 1), (0, 0), (0, 3)])?;
     let list = read(rt.alloc(), &bytes)?;
     let tally = Tally::of(rt.alloc(), &list)?;
-    assert_eq!(rt; tally.groups(), [3u16, 0, 1].as_slice());
-    assert_eq!(rt; tally.stations(), [2u16, 1, 0, 1].as_slice());
-    assert_eq!(rt; tally.busiest(), 3);
+    same(&rt, &tally.groups(), &[3u16, 0, 1].as_slice());
+    same(&rt, &tally.stations(), &[2u16, 1, 0, 1].as_slice());
+    same(&rt, &tally.busiest(), &3);
     Ok(())
 }
 
@@ -49,9 +51,9 @@ fn five_by_five(rt: HostRuntime) -> Result<(), Fail> {
         .flat_map(|group| (0..5u8).map(move |station| (group, station)))
         .collect::<Vec<_>>(heap)?;
     let in_five = bytes_of(heap, 5, 5, 5, &meetings)?;
-    assert_eq!(rt; rounds_of(heap, &in_five)?, 5);
+    same(&rt, &rounds_of(heap, &in_five)?, &5);
     let in_four = bytes_of(heap, 5, 5, 4, &meetings)?;
-    assert_eq!(rt; rounds_of(heap, &in_four)?, 7);
+    same(&rt, &rounds_of(heap, &in_four)?, &7);
     Ok(())
 }
 
@@ -60,16 +62,12 @@ fn five_by_five(rt: HostRuntime) -> Result<(), Fail> {
 fn largest_lists(rt: HostRuntime) -> Result<(), Fail> {
     let heap = rt.alloc();
     let pair = vec![in heap; (0u8, 0u8); 4000]?;
-    let spread = (0..4000u16)
-        // `as`, since it is proved to fit
-        .map(|i| ((i % 120) as u8, ((i % 120 + i / 120) % 120) as u8))
-        .collect::<Vec<_>>(heap)?;
     let pair_bytes = bytes_of(heap, 1, 1, 120, &pair)?;
-    assert_eq!(rt; rounds_of(heap, &pair_bytes)?, 4000);
-    let spread_bytes = bytes_of(heap, 120, 120, 120, &spread)?;
+    same(&rt, &rounds_of(heap, &pair_bytes)?, &4000);
+    let spread_bytes = bytes_of(heap, 120, 120, 120, &spread(heap, 4000, 1)?)?;
     let list = read(heap, &spread_bytes)?;
-    assert_eq!(rt; Tally::of(heap, &list)?.busiest(), 34);
-    assert_eq!(rt; fewest_rounds(heap, &list)?, 34);
+    same(&rt, &Tally::of(heap, &list)?.busiest(), &34);
+    same(&rt, &fewest_rounds(heap, &list)?, &34);
     Ok(())
 }
 
@@ -88,7 +86,7 @@ fn random_lists_beside_a_search(rt: HostRuntime) -> Result<(), Fail> {
         let rooms = 1 + random.below(3);
         let bytes = bytes_of(heap, 3, 3, rooms, &meetings)?;
         let said = u32::from(rounds_of(heap, &bytes)?);
-        assert_eq!(rt; searched(&meetings, rooms), Some(said));
+        same(&rt, &searched(&meetings, rooms), &Some(said));
     }
     Ok(())
 }
