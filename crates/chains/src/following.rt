@@ -12,7 +12,7 @@ use meetings::{MeetingId, Side};
 impl Board<'_> {
     // Follows the chain from a meeting through its group or its station, and on in turn, until there is no neighbour or it was
     // found already. What is found is added.
-    pub fn follow(&self, rounds: TwoRounds, side: Side, from: MeetingId, found: &mut Found)
+    fn follow(&self, rounds: TwoRounds, side: Side, from: MeetingId, found: &mut Found)
         requires in_two { InTwo self.now rounds from.0 }
         requires enough { length (meetings_on self.now) ≤ among_all found.old }
         ensures { Finds found.old found.new (found_in found.old ++ walked (two_on self.now rounds) (holds (found_in found.old)) side from.0) }

@@ -33,7 +33,12 @@ impl TwoRounds {
 
 impl Board<'_> {
     // The meeting that the group or the station of a meeting of the two rounds has in the other of them, if it has one.
-    pub fn neighbour(&self, rounds: TwoRounds, side: Side, meeting: MeetingId) -> Option<MeetingId>
+    pub(crate) fn neighbour(
+        &self,
+        rounds: TwoRounds,
+        side: Side,
+        meeting: MeetingId,
+    ) -> Option<MeetingId>
         requires in_two { InTwo self.now rounds meeting.0 }
         ensures { Unless none (λ i. i.0) result (near (two_on self.now rounds) side meeting.0) }
     {

@@ -12,7 +12,7 @@ use chains::{Board, NONE};
 use meetings::{MeetingId, Round, Side};
 
 // The lowest of so many rounds that is free in both rows, if there is one.
-pub fn lowest_common_free(one: &[u16], other: &[u16], rounds: u16) -> Option<Round>
+fn lowest_common_free(one: &[u16], other: &[u16], rounds: u16) -> Option<Round>
     requires one { rounds ≤ length one.now }
     requires other { rounds ≤ length other.now }
     ensures { Unless rounds (λ c. c.0) result (lowest (λ c. (slice_index one.now c == none) && slice_index other.now c == none) rounds) }

@@ -7,7 +7,6 @@ mod put;
 mod theorems;
 
 pub use all::put_in_all;
-pub use free::lowest_common_free;
 pub use put::{Put, put_in};
 pub use theorems::{
     all_meetings_are_put_in, chain_opens_a_round, each_meeting_is_put_in, rounds_are_enough,

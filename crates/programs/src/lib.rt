@@ -6,5 +6,5 @@ mod reading;
 mod writing;
 
 pub use ending::{answered, ended, failed, refused};
-pub use reading::{bytes_of, read_or_none, rest_of};
+pub use reading::bytes_of;
 pub use writing::{write_file, written_or_none};

@@ -8,7 +8,7 @@ use std::io::{ErrorKind, Read};
 use std::{fs, io};
 
 // All bytes that a source still gives.
-pub fn rest_of<S: Read>(heap: Global, source: &mut S) -> io::Result<Vec<u8>>
+fn rest_of<S: Read>(heap: Global, source: &mut S) -> io::Result<Vec<u8>>
     ensures bytes { IfOk result (λ bytes. IfSome (S.remaining source.old) (λ xs. bytes.items ≡ xs)) }
     ensures end { OnOk result (IsAtEnd (S.remaining source.new)) }
 {
@@ -19,7 +19,7 @@ pub fn rest_of<S: Read>(heap: Global, source: &mut S) -> io::Result<Vec<u8>>
 
 // What was read of a path. Where it could not be read, none: a sentence on standard error says why, and that the file with `what` is
 // to be named. Want of memory stays an error, since the file may well be there.
-pub fn read_or_none(
+fn read_or_none(
     rt: &impl Eprint,
     program: &str,
     path: &str,

@@ -29,6 +29,7 @@ mod rounds;
 mod rule;
 #[cfg(test)]
 mod same;
+#[cfg(test)]
 mod search;
 #[cfg(test)]
 mod told;

@@ -1,4 +1,4 @@
-// What tests assert. Only here, since the text of a failure is proved anew in each function that has the macro.
+// What tests assert, with a text where it fails. It is here since that text is proved anew in each function that has the macro.
 use std::fmt::Debug;
 use std::process::Abort;
 
