@@ -30,7 +30,7 @@ pub record Following (t : Two) (v : Found) (side : Side) (from : ℕ) (w : Found
 
 module _ (t : Two) (few : t.many ≤ none) (v w : Found) (side s : Side) (from j : ℕ) (f : Following t v side from w s j) where
   -- a neighbour that there is
-  neighbour_there : (z : ℕ) → z ≡ near t s j → (near t s j ≡ none → ⊥) → z < t.many
+  pub neighbour_there : (z : ℕ) → z ≡ near t s j → (near t s j ≡ none → ⊥) → z < t.many
   neighbour_there z e some = ⊎_elim (λ past. absurd (some past)) (λ below. rw e below) (at_cases t.many (t.party s) t.round (t.party s j) _)
 
   pub follow_on : (z : ℕ) (w' : Found) (s' : Side) → s' ≡ other_side s → z ≡ near t s j → (near t s j ≡ none → ⊥) → holds (found_in w) z ≡ false → Finds w w' (found_in w ++ z ∷ []) → Following t v side from w' s' z

@@ -13,13 +13,13 @@ use Rattle.chains.specs.Starting.{Emptied, cleared}
 use Rattle.chains.proofs.RowsKept.{place_before}
 
 module _ (n w : ℕ) (rows rows' : List ℕ) (room : n * w ≤ length rows) (is : rows' ≡ cleared n w rows) where
-  cleared_beyond : Beyond n w rows rows'
+  pub cleared_beyond : Beyond n w rows rows'
   cleared_beyond = (
     ap length is ∙ length-append (replicate (n * w) none) (drop (n * w) rows) ∙ omega (arith, length-replicate (n * w) none, length-drop (n * w) rows),
     ap (drop (n * w)) is ∙ drop_at (replicate (n * w) none) (drop (n * w) rows) (n * w) (length-replicate (n * w) none),
   )
 
-  cleared_rows : (m : ℕ) (party rnd : ℕ → ℕ) → w ≤ none → ((i : ℕ) → i < m → party i < n) → ((i : ℕ) → i < m → rnd i ≡ none) → Rows m party rnd n w rows'
+  pub cleared_rows : (m : ℕ) (party rnd : ℕ → ℕ) → w ≤ none → ((i : ℕ) → i < m → party i < n) → ((i : ℕ) → i < m → rnd i ≡ none) → Rows m party rnd n w rows'
   cleared_rows m party rnd narrow exist out = record {
     narrow = narrow;
     parties = exist;

@@ -16,6 +16,7 @@ mod writing;
 pub use board::{Board, NONE};
 pub use found::Found;
 pub use neighbours::TwoRounds;
+pub use reading::{round_in, row_in};
 pub use shapes::Shape;
 pub use starting::empty;
 pub use theorems::{

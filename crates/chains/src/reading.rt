@@ -16,7 +16,7 @@ fn unless_none(entry: u16) -> Option<u16>
 }
 
 // The round of a meeting in a slice of rounds, if it has one.
-fn round_in(rounds: &[u16], meeting: MeetingId) -> Option<Round>
+pub fn round_in(rounds: &[u16], meeting: MeetingId) -> Option<Round>
     requires here { meeting.0 < length rounds.now }
     ensures { Unless none (λ c. c.0) result (round_of rounds.now meeting.0) }
 {
@@ -67,7 +67,7 @@ impl Board<'_> {
 
 // The row of a party in the rows of its side. Rows and width are not one value: a row is a part of one lent slice, and a struct
 // of the two would have to be made for each call.
-fn row_in(rows: &[u16], width: u16, party: u16) -> &[u16]
+pub fn row_in(rows: &[u16], width: u16, party: u16) -> &[u16]
     requires room { party * width + width ≤ length rows.now }
     ensures held { result.now ≡ take width (drop (party * width) rows.now) }
     ensures long { length result.now ≡ width }

@@ -52,7 +52,7 @@ meetings_written bs n k at came (m ∷ rest) here e exist =
     rw (g, s) (more ∙ ap accepted (append_assoc came (m ∷ []) rest))
 
 -- the parts of the rule, put together
-accepted_parts : (bs : List ℕ) (n k q many : ℕ) (ms : List Meeting) → 5 ≤ length bs → limit (get_or bs 0 0) 0 ≡ accepted n → limit (get_or bs 1 0) 1 ≡ accepted k → limit (get_or bs 2 0) 2 ≡ accepted q → count (get_or bs 3 0) (get_or bs 4 0) ≡ accepted many → meetings_at bs n k many 5 [] ≡ accepted ms → read_list bs ≡ accepted (record { groups = n; stations = k; rooms = q; meetings = ms })
+pub accepted_parts : (bs : List ℕ) (n k q many : ℕ) (ms : List Meeting) → 5 ≤ length bs → limit (get_or bs 0 0) 0 ≡ accepted n → limit (get_or bs 1 0) 1 ≡ accepted k → limit (get_or bs 2 0) 2 ≡ accepted q → count (get_or bs 3 0) (get_or bs 4 0) ≡ accepted many → meetings_at bs n k many 5 [] ≡ accepted ms → read_list bs ≡ accepted (record { groups = n; stations = k; rooms = q; meetings = ms })
 accepted_parts bs n k q many ms long hn hk hq hm hms =
     let enough = le-ltb (length bs) 5 long in
     rw (enough, hn, hk, hq, hm, hms) refl

@@ -31,6 +31,8 @@ fn first_free_pair(one: &[u16], other: &[u16]) -> Option<usize>
 }
 
 // The same of so many places. Both rows are cut to them first, and not their pairs: so one counter serves for both.
+// Not inlined: in a large function its loop takes more time for each entry.
+#[inline(never)]
 fn first_common_free(one: &[u16], other: &[u16], rounds: u16) -> Option<usize>
     requires one { rounds ≤ length one.now }
     requires other { rounds ≤ length other.now }
@@ -52,7 +54,8 @@ pub(crate) fn common_free(board: &Board<'_>, rounds: u16, meeting: MeetingId) ->
 }
 
 // The lowest round in which the group of a meeting, or its station, is free, if there is one. One search for both would take a
-// list of sides, and read the rows of a list.
+// list of sides, and read the rows of a list. Not inlined, since few meetings need it.
+#[inline(never)]
 pub(crate) fn own_free(
     board: &Board<'_>,
     rounds: u16,

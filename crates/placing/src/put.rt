@@ -51,8 +51,10 @@ fn open_round(
     found.list().len() as u64
 }
 
-// Puts a meeting in by a chain, which opens the first of the two rounds for it.
+// Puts a meeting in by a chain, which opens the first of the two rounds for it. Not inlined: few meetings need it, and all would pay
+// for the registers that it saves.
 #[tactic(auto, using(crate::proofs::Fuller::fuller_on))]
+#[inline(never)]
 fn put_by_chain(
     board: &mut Board<'_>,
     rounds: TwoRounds,
@@ -96,8 +98,6 @@ fn put_into(board: &mut Board<'_>, meeting: MeetingId, round: Round) -> Put
 // Puts one meeting in: into the lowest round in which its group and its station are free, else by a chain, which is what was found
 // then. The looks are one for the meeting, and one for each meeting of the chain. The meeting has a round then, all others have
 // one still, and with n groups and k stations the looks are 1 + n + k at most.
-// Not inlined: in a large function its loops over rows take more steps for each entry.
-#[inline(never)]
 pub fn put_in(board: &mut Board<'_>, rounds: u16, meeting: MeetingId, found: &mut Found) -> Put
     requires { ReadyOn board.old found.old rounds meeting.0 }
     ensures rule { PutOn board.old board.new (put rounds (meetings_on board.old) (rounds_on board.old) meeting.0) result.looks }
